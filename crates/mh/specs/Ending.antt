@@ -14,8 +14,8 @@ use Rattle.mh_main.specs.Reading.{ReadsInputs}
 use Rattle.mh_main.specs.Status.{FailsWhere, IsDoneFullOrWant, IsDoneOrWant, IsRefusedOrWant, IsStatus, IsUnreadOrWant, IsUsageOrWant, done, forms_full, no_memory, refused, types_full, unread, usage_wanted, write_failed}
 use Rattle.mh_main.specs.Stops.{InputsStill}
 
--- what is known of inputs and a sink at one time: what contracts see of each file, how often its reads failed, how far it was read, how many files were begun;
--- what was taken, and how often a write failed
+-- What is known of inputs and of a sink at one time. Of inputs: what contracts see of each file, how often its reads failed, how far it was read, and how many
+-- files were begun. Of the sink: what it took, and how often a write failed.
 pub record Outside : Type 0 where
   pub contents : List ℕ → Contents
   pub faults : List ℕ → ℕ
@@ -37,7 +37,7 @@ IsReport words files bytes = (answer : TopAnswer) × Reports words files answer 
 abbrev pub IsDueText : List (List ℕ) → Outside → Outside → List ℕ → Type 0
 IsDueText words old new bytes = (answer : TopAnswer) × IsDue words old.contents old.faults new.faults answer bytes
 
--- what was written, by the status: where a write failed, a front part of what was due
+-- what was written, by the status: if a write failed, a front part of what was due
 pub record WritesBy (status : ℕ) (words : List (List ℕ)) (old new : Outside) : Type 0 where
   pub report : status ≡ done → Writes (IsReport words old.contents) old.taken new.taken
   pub refusal : status ≡ refused → Writes (RefusesInput words old.contents old.faults new.faults) old.taken new.taken
@@ -48,7 +48,7 @@ pub record WritesBy (status : ℕ) (words : List (List ℕ)) (old new : Outside)
   pub unreadable : status ≡ unread → Writes (FailsToRead (command_of words) old.contents old.faults new.faults) old.taken new.taken
   pub broken : status ≡ write_failed → WritesPart (IsDueText words old new) old.taken new.taken
 
--- which status it is: where nothing failed, the words and the files decide it, except that memory may be wanting
+-- which status it is: if nothing failed, the words and the files decide it, except that memory may run out
 pub record IsStatusOf (words : List (List ℕ)) (old new : Outside) (status : ℕ) : Type 0 where
   pub known : IsStatus status
   pub fails : FailsWhere status old.write_faults new.write_faults
@@ -61,7 +61,7 @@ pub record IsStatusOf (words : List (List ℕ)) (old new : Outside) (status : �
   pub generated : IsGenerated (command_of words) → IsStill old.write_faults new.write_faults → IsDoneFullOrWant status
   pub unread_wanted : IsMissing (input words old.contents) → IsStill old.write_faults new.write_faults → IsUnreadOrWant status
 
--- what the program does on words where it ends with this status: what it writes, and what it leaves of the inputs
+-- what the program does on words if it ends with this status: what it writes, and what it leaves of the inputs
 pub record EndsWith (status : ℕ) (words : List (List ℕ)) (old new : Outside) : Type 0 where
   pub writes : WritesBy status words old new
   pub is : IsStatusOf words old new status
@@ -72,7 +72,7 @@ pub record EndsWith (status : ℕ) (words : List (List ℕ)) (old new : Outside)
 abbrev pub after_name : List (String Global) → List (List ℕ)
 after_name words = map string_bytes (drop 1 words)
 
--- the program ends so on the words after its name, where words were given of which this holds; or memory was wanting for them, and nothing was done
+-- the program ends so on the words after its name, if this holds of the words that were given; or memory for the words ran out, and nothing was done
 abbrev pub EndsOnGiven : ℕ → (List (String Global) → Type 0) → Outside → Outside → Type 0
 EndsOnGiven status AreGiven old new =
     ((words : List (String Global)) × AreGiven words × EndsWith status (after_name words) old new) ⊎ ((status ≡ no_memory) × (new ≡ old))

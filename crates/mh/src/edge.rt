@@ -20,7 +20,7 @@ use std::process::ExitCode;
 use std::sync::Wait;
 use std::thread::Threads;
 
-// All the words, in order. Words that are no text are refused as no words are.
+// All the words, in order. Words that are no text are refused, as an empty list of words is.
 fn words_of<W: Iterator<Item = String> + Drop>(
     alloc: Global,
     args: io::Result<W>,

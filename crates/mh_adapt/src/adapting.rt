@@ -41,12 +41,12 @@ pub fn adapt<'t, R: Wait>(
 {
     match adapter_growth(w, &target, adapter, ty) {
         Ok(by) => target.grown(w, rt, by),
-        Err(NoMemory) => target.refused(w, CheckError::NoMemory),
+        Err(NoMemory) => target.refuse(w, CheckError::NoMemory),
     }
 }
 
 /// The adapted handle, or the refusal by the adapter's rule.
-pub(crate) fn adapted<'t, R: Wait>(
+pub(crate) fn check_and_adapt<'t, R: Wait>(
     w: &mut Work<'_, 't>,
     rt: &R,
     target: Handle<'t>,
@@ -67,6 +67,6 @@ pub(crate) fn adapted<'t, R: Wait>(
 {
     match adapter_type(w, &target, &adapter) {
         Ok(ty) => adapt(w, rt, target, adapter, ty),
-        Err(error) => target.refused(w, error),
+        Err(error) => target.refuse(w, error),
     }
 }

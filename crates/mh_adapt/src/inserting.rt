@@ -8,7 +8,7 @@ ghost use Rattle.mh_handle.specs.Recipe.{recipe};
 ghost use Rattle.mh_handle.specs.Works.{GoesOn, HoldsTypes, IsReady, Makes, StandsIn, TradesTypes};
 ghost use Rattle.mh_handle.specs.Works.{classes_of, leaves_of, types_in};
 
-use crate::adapting::adapted;
+use crate::adapting::check_and_adapt;
 use mh_handle::{Handle, HandleError, Work};
 use mh_tree::Adapter;
 use mh_values::{MethodTy, Tys, Value};
@@ -38,7 +38,7 @@ pub fn bind<'t, R: Wait>(
     ensures stands { (a : Tree) → StandsIn w.old target.entry a
         → IfOk result (λ h. StandsIn w.old h (tree.Bind a position value)) }
 {
-    adapted(w, rt, target, Adapter::Bind { position, value })
+    check_and_adapt(w, rt, target, Adapter::Bind { position, value })
 }
 
 /// A handle that takes arguments of the types `value_types` at `position` and does not pass them to
@@ -70,7 +70,7 @@ pub fn drop_args<'t, R: Wait>(
         position,
         types: value_types,
     };
-    adapted(w, rt, target, adapter)
+    check_and_adapt(w, rt, target, adapter)
 }
 
 /// A handle of the type `ty` that passes to each parameter of `target` the argument that `reorder`
@@ -101,5 +101,5 @@ pub fn permute<'t, R: Wait>(
         asked: ty,
         order: reorder,
     };
-    adapted(w, rt, target, adapter)
+    check_and_adapt(w, rt, target, adapter)
 }

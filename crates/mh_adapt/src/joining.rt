@@ -32,7 +32,7 @@ pub struct Pair<'t> {
 }
 
 /// Gives back the handle and the part, and answers the refusal.
-pub(crate) fn refused_with<'t>(
+pub(crate) fn refuse_with<'t>(
     w: &mut Work<'_, 't>,
     target: Handle<'t>,
     part: Handle<'t>,
@@ -46,11 +46,11 @@ pub(crate) fn refused_with<'t>(
         w.old.seat.now w.new.seat.now }
 {
     target.give_back(w);
-    part.refused(w, error)
+    part.refuse(w, error)
 }
 
 /// The handle after the edit, with the part. If none is made, both are given back.
-pub(crate) fn grown_with<'t, R: Wait>(
+pub(crate) fn grow_with<'t, R: Wait>(
     w: &mut Work<'_, 't>,
     rt: &R,
     target: Handle<'t>,
@@ -109,13 +109,13 @@ pub fn join<'t, R: Wait>(
 {
     let Pair { target, part } = pair;
     match joint_growth(w.alloc, ty, &target, joint, &part) {
-        Ok(by) => grown_with(w, rt, target, by, part),
-        Err(NoMemory) => refused_with(w, target, part, CheckError::NoMemory),
+        Ok(by) => grow_with(w, rt, target, by, part),
+        Err(NoMemory) => refuse_with(w, target, part, CheckError::NoMemory),
     }
 }
 
 /// The handle joined with the part, or the refusal by the joint's rule.
-pub(crate) fn joined<'t, R: Wait>(
+pub(crate) fn check_and_join<'t, R: Wait>(
     w: &mut Work<'_, 't>,
     rt: &R,
     target: Handle<'t>,
@@ -138,6 +138,6 @@ pub(crate) fn joined<'t, R: Wait>(
 {
     match joint_type(w, &target, joint, &part) {
         Ok(ty) => join(w, rt, Pair { target, part }, joint, ty),
-        Err(error) => refused_with(w, target, part, error),
+        Err(error) => refuse_with(w, target, part, error),
     }
 }

@@ -8,7 +8,7 @@ ghost use Rattle.mh_handle.specs.Recipe.{recipe};
 ghost use Rattle.mh_handle.specs.Works.{GoesOn, HoldsTypes, IsReady, Makes, StandsIn, TradesTypes};
 ghost use Rattle.mh_handle.specs.Works.{leaves_of, types_in};
 
-use crate::joining::joined;
+use crate::joining::check_and_join;
 use mh_handle::{Handle, HandleError, Work};
 use mh_tree::Joint;
 use std::sync::Wait;
@@ -39,7 +39,7 @@ pub fn filter<'t, R: Wait>(
         → StandsIn w.old filter.entry b
         → IfOk result (λ h. StandsIn w.old h (tree.FilterArg a position b)) }
 {
-    joined(w, rt, target, Joint::Filter(position), filter)
+    check_and_join(w, rt, target, Joint::Filter(position), filter)
 }
 
 /// Applies `filter` to the result of `target`, and returns what `filter` returns
@@ -67,7 +67,7 @@ pub fn filterret<'t, R: Wait>(
         → StandsIn w.old filter.entry b
         → IfOk result (λ h. StandsIn w.old h (tree.FilterRet a b)) }
 {
-    joined(w, rt, target, Joint::FilterReturn, filter)
+    check_and_join(w, rt, target, Joint::FilterReturn, filter)
 }
 
 /// Runs `combiner` on the arguments from a position on, and then `target` with the combiner's
@@ -97,7 +97,7 @@ pub fn fold<'t, R: Wait>(
         → StandsIn w.old combiner.entry b
         → IfOk result (λ h. StandsIn w.old h (tree.Fold a position b)) }
 {
-    joined(w, rt, target, Joint::Fold(position), combiner)
+    check_and_join(w, rt, target, Joint::Fold(position), combiner)
 }
 
 /// Runs `filter` on its arguments, which come from a position on, and passes its result to `target`
@@ -127,5 +127,5 @@ pub fn collect<'t, R: Wait>(
         → StandsIn w.old filter.entry b
         → IfOk result (λ h. StandsIn w.old h (tree.Collect a position b)) }
 {
-    joined(w, rt, target, Joint::Collect(position), filter)
+    check_and_join(w, rt, target, Joint::Collect(position), filter)
 }

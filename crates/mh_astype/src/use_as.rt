@@ -60,7 +60,7 @@ fn use_type<'t>(
 }
 
 /// The handle converted to the type, if at least one conversion changes something.
-fn converted<'t, R: Wait>(
+fn convert_by_edit<'t, R: Wait>(
     w: &mut Work<'_, 't>,
     rt: &R,
     rules: Rules,
@@ -81,12 +81,12 @@ fn converted<'t, R: Wait>(
 {
     match conversions(w, rules, &target, ty) {
         Ok(by) => target.grown(w, rt, by),
-        Err(NoMemory) => target.refused(w, CheckError::NoMemory),
+        Err(NoMemory) => target.refuse(w, CheckError::NoMemory),
     }
 }
 
 /// The handle converted to the type, if no conversion changes anything.
-fn kept<'t, R: Wait>(
+fn keep_form<'t, R: Wait>(
     w: &mut Work<'_, 't>,
     rt: &R,
     rules: Rules,
@@ -107,14 +107,14 @@ fn kept<'t, R: Wait>(
     ensures types { TradesTypes (ty ∷ []) target.entry.held w.old w.new result }
 {
     let weight = 1 + target.weight();
-    match target.retyped(w, rt, ty, weight) {
+    match target.retype(w, rt, ty, weight) {
         Ok(made) => Ok(made),
         Err(error) => Err(HandleError::from(error)),
     }
 }
 
 /// The handle converted to the type, whether or not a conversion changes anything.
-fn used<'t, R: Wait>(
+fn convert_handle<'t, R: Wait>(
     w: &mut Work<'_, 't>,
     rt: &R,
     rules: Rules,
@@ -132,9 +132,9 @@ fn used<'t, R: Wait>(
     ensures types { TradesTypes (ty ∷ []) target.entry.held w.old w.new result }
 {
     if is_trivial(&ty, target.ty(), w.leaves.classes()) {
-        kept(w, rt, rules, target, ty)
+        keep_form(w, rt, rules, target, ty)
     } else {
-        converted(w, rt, rules, target, ty)
+        convert_by_edit(w, rt, rules, target, ty)
     }
 }
 
@@ -169,8 +169,8 @@ pub fn use_by<'t, R: Wait>(
         return Ok(target);
     }
     match use_type(w, rules, &target, ty) {
-        Ok(asked) => used(w, rt, rules, target, asked),
-        Err(error) => target.refused(w, error),
+        Ok(asked) => convert_handle(w, rt, rules, target, asked),
+        Err(error) => target.refuse(w, error),
     }
 }
 

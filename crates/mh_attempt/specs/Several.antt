@@ -74,8 +74,8 @@ DrawsOnce key old new = (new.seat ≡ old.seat) ⊎ ((old.seat.room ≤ new.seat
 abbrev pub LearnsOnce : List Key → PassView → PassView → Type 0
 LearnsOnce key old new = (new.seat ≡ old.seat) ⊎ HasLearnt key new
 
--- Tables and leaves are the same, and the pass has forgotten nothing. At most one number was drawn, for a form of the recipe, and at most so many
--- types were taken.
+-- Tables and leaves are the same, and the pass has forgotten nothing. At most one number was drawn, for a form of the recipe, and at most this many types were
+-- taken.
 pub record GoesOnOnce (key : List Key) (holds : ℕ) (old new : Work) : Type 0 where
   pub types : new.types ≡ old.types
   pub lent : new.seat.ghost_name ≡ old.seat.ghost_name
@@ -88,7 +88,7 @@ pub record GoesOnOnce (key : List Key) (holds : ℕ) (old new : Work) : Type 0 w
   pub seat : new.seat.now.table ≡ old.seat.now.table
   pub room : old.seat.now.room ≤ new.seat.now.room + holds
 
--- There is room for two numbers, or for one if the pass has learnt a form of the recipe. There is room for so many types, and for those of one handle.
+-- There is room for two numbers, or for one if the pass has learnt a form of the recipe. There is room for this many types, and for those of one handle.
 pub record IsReadyOnce (key : List Key) (holds : ℕ) (w : Work) : Type 0 where
   pub of_table : IsPassOf w.forms.now w.pass.now
   pub numbers : (2 ≤ w.pass.now.seat.room) ⊎ ((1 ≤ w.pass.now.seat.room) × HasLearnt key w.pass.now)

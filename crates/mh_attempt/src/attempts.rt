@@ -17,11 +17,11 @@ ghost use Rattle.mh_attempt.specs.Registers.{HasLeaves};
 ghost use Rattle.mh_attempt.specs.Several.{AddsTypes};
 
 use crate::call::call_of;
-use crate::concatenation::concatenated;
+use crate::concatenation::make_concatenation;
 use crate::error::WorkError;
 use crate::linkage::{Linkage, Linked};
 use crate::registers::Registers;
-use crate::script::ran;
+use crate::script::run_lines;
 use mh_base::{Copied, Frozen, NoMemory, Seq};
 use mh_handle::{Handle, HandleError, Work};
 use mh_jobs::{BootstrapCall, Job, Method, Run};
@@ -61,7 +61,7 @@ fn recorded(alloc: Global, classes: &Classes, exc: Exc) -> Result<Exc, NoMemory>
 
 /// The target that a script returns, in the attempt with a serial number. At the end, what the
 /// registers hold is given back.
-fn scripted<'t, R: Wait>(
+fn run_script<'t, R: Wait>(
     w: &mut Work<'_, 't>,
     rt: &R,
     script: &Script,
@@ -85,13 +85,13 @@ fn scripted<'t, R: Wait>(
         w.old w.new result }
 {
     let mut registers = Registers::new(w.alloc, call, serial);
-    let target = ran(w, rt, &mut registers, script.steps.as_slice(), &script.end);
+    let target = run_lines(w, rt, &mut registers, script.steps.as_slice(), &script.end);
     registers.give_back(w);
     target
 }
 
 /// The target that a call of a bootstrap method returns, in the attempt with a serial number.
-fn called<'t, R: Wait>(
+fn call_bootstrap<'t, R: Wait>(
     w: &mut Work<'_, 't>,
     rt: &R,
     scripts: &Scripts,
@@ -112,8 +112,8 @@ fn called<'t, R: Wait>(
         w.old w.new result }
 {
     match call.method {
-        Method::Script(id) => scripted(w, rt, scripts.get(id), call, serial),
-        Method::Concat => concatenated(w, rt, call),
+        Method::Script(id) => run_script(w, rt, scripts.get(id), call, serial),
+        Method::Concat => make_concatenation(w, rt, call),
     }
 }
 
@@ -139,7 +139,7 @@ fn target<'t, R: Wait>(
         w.old w.new result }
 {
     let call = call_of(w.alloc, job)?;
-    called(w, rt, scripts, &call, serial)
+    call_bootstrap(w, rt, scripts, &call, serial)
 }
 
 /// What is linked for a job, in the attempt with a serial number.
@@ -184,8 +184,9 @@ fn link<'t, R: Wait>(
 /// has. It runs the script's lines and records how they end, an exception as an error. It gives
 /// back the handles that the lines made, except the target.
 ///
-/// It answers `FormsFull` if no number is left for a form that the script asks for, and `TypesFull`
-/// if the bucket of a type is full of other types that are held. It then records nothing.
+/// It answers `FormsFull` if no number is left for a form that the script asks for. It answers
+/// `TypesFull` if the bucket of a type is full of other types that are held. It then records
+/// nothing.
 pub fn attempt<'t, J: Run, R: Wait>(
     w: &mut Work<'_, 't>,
     rt: &R,

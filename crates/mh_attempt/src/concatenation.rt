@@ -134,10 +134,10 @@ fn pieces_given(
     pieces_with(alloc, recipe, constants, ty, classes)
 }
 
-/// The handle of a concatenation for a call site. Refused, in this order, if the recipe is missing
-/// or is no text, if it does not fit the constants and the type of the call site, or if a constant
-/// is no value.
-pub(crate) fn concatenated<'t, R: Wait>(
+/// The handle of a concatenation for a call site. It is refused, in this order, if the recipe is
+/// missing or no text, or if it does not fit the constants and the call site's type. Last, it is
+/// refused if a constant is no value.
+pub(crate) fn make_concatenation<'t, R: Wait>(
     w: &mut Work<'_, 't>,
     rt: &R,
     call: &BootstrapCall,

@@ -68,7 +68,7 @@ impl<'f, 't> HandleOperand<'f, 't> {
     }
 
     /// A handle of its own: a copy of the held one, or a new handle of the leaf.
-    pub fn made<R: Wait>(&self, w: &mut Work<'_, 't>, rt: &R) -> Result<Handle<'t>, HandleError>
+    pub fn make<R: Wait>(&self, w: &mut Work<'_, 't>, rt: &R) -> Result<Handle<'t>, HandleError>
         requires ready { IsReady w.old 1 }
         requires stands { StandsForSome (leaves_of w.old) self.now }
         requires held { IsHeldIn w.old.seat.now self.now }

@@ -8,6 +8,7 @@ mod error;
 mod handle;
 mod lines;
 mod linkage;
+mod literal;
 mod names;
 mod registers;
 mod script;

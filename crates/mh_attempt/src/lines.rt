@@ -17,7 +17,7 @@ use crate::registers::Registers;
 use mh_handle::{Handle, HandleError, Work};
 use mh_script::Operation;
 use nodes::operands;
-use parts::made;
+use parts::make_node;
 use std::sync::Wait;
 
 /// The handle that an operation makes of what the registers hold. Its operands are checked first,
@@ -37,5 +37,5 @@ pub(crate) fn node<'t, R: Wait>(
         → MakesOperation frame operation.now w.old w.new result }
 {
     let node = operands(w.leaves, registers, operation)?;
-    made(w, rt, node)
+    make_node(w, rt, node)
 }

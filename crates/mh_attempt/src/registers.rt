@@ -15,6 +15,7 @@ ghost use Rattle.mh_attempt.specs.Registers.{AreHeldBy, HasRoomForName, Hold, Ho
 ghost use Rattle.mh_attempt.specs.Told.{Tells, TellsBy, Throws};
 
 use crate::handle::HandleOperand;
+use crate::literal::value_of;
 use crate::names::{method_type_of_text, type_of_text};
 use crate::thrown::thrown;
 use mh_base::{Copied, NoMemory, Shared};
@@ -232,7 +233,7 @@ impl<'f, 't> Registers<'f, 't> {
         }
     }
 
-    /// Assigns a register, for which there must be room, and gives up what it held before.
+    /// Assigns a register and releases what it held before. There must be room for it.
     pub fn assign(&mut self, w: &mut Work<'_, 't>, name: &'f [u8], held: Held<'t>)
         requires room { HasRoomForName self.old }
         requires of_types { w.old.seat.now.table ≡ w.old.types.now }
@@ -329,7 +330,7 @@ impl<'f, 't> Registers<'f, 't> {
             → Tells result (value_in frame operand.now) }
     {
         match operand {
-            ValueOperand::Literal(value) => Ok(value.copy(self.alloc)?),
+            ValueOperand::Literal(value) => Ok(value_of(self.alloc, value)?),
             ValueOperand::Register(register) => {
                 let held = self.content(register)?;
                 as_value(self.alloc, held)

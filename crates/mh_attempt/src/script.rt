@@ -55,7 +55,7 @@ fn raised(alloc: Global, classes: &Classes, class: &[u8], message: &Str) -> Resu
 }
 
 /// The last line `return H`: a handle of the register, whose type must be the site's.
-fn returned<'t, R: Wait>(
+fn return_handle<'t, R: Wait>(
     w: &mut Work<'_, 't>,
     rt: &R,
     registers: &Registers<'_, 't>,
@@ -78,11 +78,11 @@ fn returned<'t, R: Wait>(
     if !is_same_method_type(own, asked) {
         return Err(HandleError::Refused(mismatch(w.alloc, own, asked, w.classes())?));
     }
-    target.made(w, rt)
+    target.make(w, rt)
 }
 
 /// The last line.
-fn ended<'t, R: Wait>(
+fn run_end<'t, R: Wait>(
     w: &mut Work<'_, 't>,
     rt: &R,
     registers: &Registers<'_, 't>,
@@ -101,7 +101,7 @@ fn ended<'t, R: Wait>(
         (end_types (leaves_of w.old) end.now frame) w.old w.new result }
 {
     match end {
-        End::Return(register) => returned(w, rt, registers, register),
+        End::Return(register) => return_handle(w, rt, registers, register),
         End::Raise { class, message } => {
             let exc = raised(w.alloc, w.classes(), class.as_slice(), message)?;
             Err(HandleError::Refused(exc))
@@ -115,7 +115,7 @@ fn ended<'t, R: Wait>(
 
 /// Runs a line before the last one. The registers hold a handle that it makes. What the register
 /// had before is given back once the line has used it.
-fn stepped<'f, 't, R: Wait>(
+fn run_line<'f, 't, R: Wait>(
     w: &mut Work<'_, 't>,
     rt: &R,
     registers: &mut Registers<'f, 't>,
@@ -150,7 +150,7 @@ fn stepped<'f, 't, R: Wait>(
 
 /// Runs the rest of a script, up to the first line that throws. In either case the registers hold
 /// what the lines have assigned.
-pub(crate) fn ran<'f, 't, R: Wait>(
+pub(crate) fn run_lines<'f, 't, R: Wait>(
     w: &mut Work<'_, 't>,
     rt: &R,
     registers: &mut Registers<'f, 't>,
@@ -161,7 +161,7 @@ pub(crate) fn ran<'f, 't, R: Wait>(
     ensures { Runs steps.now end.now registers.old registers.new w.old w.new result }
 {
     for step in steps {
-        stepped(w, rt, registers, step)?;
+        run_line(w, rt, registers, step)?;
     }
-    ended(w, rt, registers, end)
+    run_end(w, rt, registers, end)
 }

@@ -1,4 +1,4 @@
--- The items of a list that is not changed any more.
+-- The items of a list that no longer changes.
 use Rattle.std.specs.Prelude.{List, []}
 use Rattle.mh_base.specs.declared.frozen.Kept.{Kept}
 use Rattle.mh_base.specs.declared.frozen.Kept.TheVariants.{Nothing, Items}

@@ -6,7 +6,7 @@ use Rattle.mh_base.specs.declared.lines.LineFault.{LineFault}
 use Rattle.mh_base.specs.declared.lines.LineError.{LineError}
 use Rattle.mh_base.specs.declared.lines.LineError.TheVariants as line_error
 
--- LF ends a line; what stands after the last LF is a line too
+-- LF ends a line; what follows the last LF is a line too
 abbrev pub lines_of : List ℕ → List (List ℕ)
 lines_of text = slice_split (λ b. b == line_feed) text
 
@@ -31,7 +31,7 @@ abbrev pub is_passed : List ℕ → Bool
 is_passed [] = true
 is_passed (b ∷ bs) = b == number_sign
 
--- a line of the bytes 0x20 to 0x7E alone
+-- a line with only bytes from 0x20 to 0x7E
 abbrev pub is_plain : List ℕ → Bool
 is_plain line = list_all (λ b. nat_le 0x20 b && nat_le b 0x7E) line
 
@@ -49,14 +49,14 @@ abbrev pub built_from : {S K : Type 0} → (S → List ℕ → Result S K) → �
 built_from step n so_far [] = Ok so_far
 built_from step n so_far (line ∷ lines) = after_line n (step so_far line) (λ next. built_from step (n + 1) next lines)
 
--- what a reader answers that took a line of this meaning, with what is then there: Ok where that is the meaning's value, a kind where it is
--- the meaning's; want of memory tells nothing
+-- What a reader answers that took a line of this meaning, with its new state: Ok if the state is the meaning's value, or the meaning's kind of fault. About
+-- lack of memory nothing is said.
 abbrev pub TakesLine : {T S K : Type 0} → S → Result T (LineError K) → Result S K → Type 0
 TakesLine new (Ok done) meaning = meaning ≡ Ok new
 TakesLine new (Err line_error.NoMemory) meaning = Unit {0}
 TakesLine new (Err (line_error.Kind kind)) meaning = meaning ≡ Err kind
 
--- the same of a reader that answers with a value: Ok where that is the meaning's value
+-- the same of a reader that answers with a value: Ok if that is the meaning's value
 abbrev pub TellsLine : {S K : Type 0} → Result S (LineError K) → Result S K → Type 0
 TellsLine (Ok got) meaning = meaning ≡ Ok got
 TellsLine (Err line_error.NoMemory) meaning = Unit {0}

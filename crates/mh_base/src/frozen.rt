@@ -11,8 +11,8 @@ enum Kept<T> {
     Items(Shared<Seq<T>>),
 }
 
-/// A list that is not changed any more: a copy shares its items, so it takes no memory. Contracts
-/// see the list of its items.
+/// A list that no longer changes. A copy shares its items, so it takes no memory. Contracts see the
+/// list of its items.
 #[derive(Debug, Drop)]
 pub struct Frozen<T> {
     kept: Kept<T>,
@@ -81,7 +81,7 @@ impl<T> Frozen<T> {
         &self.as_slice()[at]
     }
 
-    /// A copy. It takes no memory, and fails only where 2^63 owners are counted.
+    /// A copy. It takes no memory, and fails only if 2^63 owners are counted.
     pub fn copy(&self) -> Result<Frozen<T>, NoMemory>
         ensures { IfOk result (λ copy. copy ≡ self.now) }
     {

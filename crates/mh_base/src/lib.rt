@@ -1,4 +1,4 @@
-//! What every layer names: want of memory, lists, and the lines of a text.
+//! What every layer names: lack of memory, lists, and the lines of a text.
 #![tactic(auto)]
 
 mod copied;

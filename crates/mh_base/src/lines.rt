@@ -50,7 +50,7 @@ pub fn is_passed(line: &[u8]) -> bool
     }
 }
 
-/// Whether a line has no bytes but those from 0x20 to 0x7E.
+/// Whether a line has only bytes from 0x20 to 0x7E.
 pub fn is_plain(line: &[u8]) -> bool
     ensures { result ≡ is_plain line.now }
 {

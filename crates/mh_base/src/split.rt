@@ -4,7 +4,7 @@ ghost use Rattle.mh_base.specs.Lines.{cut_at};
 
 use std::alloc::{AllocError, Global};
 
-/// The pieces of a text between the places of a byte: one more than the byte stands in it.
+/// The pieces of a text between the places of a byte: one more than there are such places.
 pub fn split_at_byte<'b>(
     alloc: Global,
     bytes: &'b [u8],
@@ -25,7 +25,8 @@ fn place_of(text: &[u8], byte: u8) -> Option<usize>
     text.iter().position(|b| *b == byte)
 }
 
-/// A text before the first place of a byte, and after it; `None` where the byte is nowhere.
+/// A text before the first place of a byte, and after it; `None` if the text does not have the
+/// byte.
 pub fn split_once(text: &[u8], byte: u8) -> Option<(&[u8], &[u8])>
     ensures { option_map (λ parts. (parts.0.now, parts.1.now)) result ≡ cut_at byte text.now }
 {

@@ -18,7 +18,7 @@ unfoldable pub script_text : List ℕ → ℕ → List ℕ
 script_text owner number =
     codes "script " ++ owner ++ decimal number ++ codes " f ()V\nlet a leaf b/C.d:(I)I\nreturn a\nend\n"
 
--- so many scripts, numbered from 0 on
+-- this many scripts, numbered from 0 on
 unfoldable pub file_text : List ℕ → ℕ → List ℕ
 file_text owner zero = []
 file_text owner (suc count) = file_text owner count ++ script_text owner count

@@ -76,7 +76,7 @@ fn last(known: &Known<Number>) -> u64 {
     }
 }
 
-/// Copies what is learnt of all cells, and joins the copy, so many times.
+/// Copies what is learnt of all cells, and joins the copy, this many times.
 pub(crate) fn measured<R: Wait>(rt: &R, alloc: Global, turns: u32) -> Result<u64, NoMemory> {
     let cells = Cells::new(alloc, CELLS as usize)?;
     let mut known = all_learnt(rt, alloc, &cells)?;

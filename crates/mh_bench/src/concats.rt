@@ -19,7 +19,7 @@ use std::sync::Wait;
 /// What is measured, all calls in one machine.
 #[derive(Clone, Copy)]
 pub(crate) enum Row {
-    /// A concatenation of so many texts of 4 characters.
+    /// A concatenation of this many texts of 4 characters.
     Pieces(usize),
     /// A concatenation of 200 texts of 4,096 characters, which is refused.
     TooLong,
@@ -46,7 +46,7 @@ const ARGUMENT: char = '\u{1}';
 
 const STRING: Ty = Ty::Class(ClassId::STRING);
 
-/// The type of a call that joins so many texts.
+/// The type of a call that joins this many texts.
 fn texts_type(alloc: Global, count: usize) -> Result<MethodTy, NoMemory> {
     let mut params = Seq::new(alloc);
     for _ in 0..count {
@@ -58,7 +58,7 @@ fn texts_type(alloc: Global, count: usize) -> Result<MethodTy, NoMemory> {
     })
 }
 
-/// The recipe of so many arguments.
+/// The recipe of this many arguments.
 fn recipe_of(alloc: Global, count: usize) -> Result<Str, NoMemory> {
     let mut characters = Seq::new(alloc);
     for _ in 0..count {
@@ -68,7 +68,7 @@ fn recipe_of(alloc: Global, count: usize) -> Result<Str, NoMemory> {
 }
 
 /// The pieces that are the parameters of a type. If no concatenation has the type, the answer is
-/// want of memory.
+/// lack of memory.
 fn pieces_of(alloc: Global, ty: &MethodTy, classes: &Classes) -> Result<Pieces, NoMemory>
     ensures { IfOk result (λ pieces. concat_row classes.now ty.now pieces ≡ Ok ty.now) }
 {
@@ -80,7 +80,7 @@ fn pieces_of(alloc: Global, ty: &MethodTy, classes: &Classes) -> Result<Pieces, 
     }
 }
 
-/// A handle that joins so many texts.
+/// A handle that joins this many texts.
 fn joining<'t, R: Wait>(
     w: &mut Work<'_, 't>,
     rt: &R,
@@ -96,7 +96,7 @@ fn joining<'t, R: Wait>(
     concat(w, rt, &ty, &pieces)
 }
 
-/// A call on so many texts, each of so many characters.
+/// A call on this many texts, each of this many characters.
 fn call_on(count: usize, length: usize) -> Call {
     Call {
         args: Args::Texts(count, length),
@@ -104,7 +104,7 @@ fn call_on(count: usize, length: usize) -> Call {
     }
 }
 
-/// Joins so many texts, each of so many characters, so many times.
+/// Joins this many texts, each of this many characters, this many times.
 fn joins<'t, R: Wait>(
     w: &mut Work<'_, 't>,
     rt: &R,
@@ -121,7 +121,8 @@ fn joins<'t, R: Wait>(
     Ok(sum?)
 }
 
-/// Joins so many texts of 4 characters by a leaf, so many times: each step joins two of them before.
+/// Joins this many texts of 4 characters by a leaf, this many times: each step joins two of them
+/// before.
 fn by_leaves<'t, R: Wait>(
     w: &mut Work<'_, 't>,
     rt: &R,
@@ -140,7 +141,7 @@ fn by_leaves<'t, R: Wait>(
     calls(w, rt, subject, turns)
 }
 
-/// The work of a row, so many times, on one table.
+/// The work of a row, this many times, on one table.
 pub(crate) fn measured<'t, R: Wait>(
     w: &mut Work<'_, 't>,
     rt: &R,

@@ -34,7 +34,7 @@ fn resolved<J: ConstRun, R: Wait>(rt: &R, alloc: Global, built: &Built) -> Resul
     Ok(serial.wrapping_add(pass.attempts().len() as u64))
 }
 
-/// The same so many times, each on a new table.
+/// The same this many times, each on a new table.
 fn resolved_again<R: Wait>(
     rt: &R,
     alloc: Global,
@@ -50,7 +50,7 @@ fn resolved_again<R: Wait>(
     Ok(sum)
 }
 
-/// Splits so many passes off one, all of which are kept to the end.
+/// Splits this many passes off one, all of which are kept to the end.
 fn split_off<'s, 't, J: ConstRun>(
     alloc: Global,
     table: &'s ConstTable<'t, J>,
@@ -79,7 +79,7 @@ fn split_on<J: ConstRun>(alloc: Global, built: &Built, turns: u32) -> Result<u64
     split_off(alloc, &table, pass, turns)
 }
 
-/// Splits so many passes off the first pass of a table of 16,384 constants.
+/// Splits this many passes off the first pass of a table of 16,384 constants.
 fn passes_split(alloc: Global, turns: u32) -> Result<u64, NoMemory> {
     if turns > 1024 {
         return Err(NoMemory);
@@ -88,7 +88,7 @@ fn passes_split(alloc: Global, turns: u32) -> Result<u64, NoMemory> {
     split_on::<Brand>(alloc, &built, turns)
 }
 
-/// The work of a row, so many times.
+/// The work of a row, this many times.
 pub(crate) fn measured<R: Wait>(
     rt: &R,
     alloc: Global,

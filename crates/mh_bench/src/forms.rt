@@ -28,7 +28,7 @@ fn digits(alloc: Global, number: u32) -> Result<Basics, NoMemory> {
     Ok(basics)
 }
 
-/// Makes so many forms, each of a leaf of another shape.
+/// Makes this many forms, each of a leaf of another shape.
 pub(crate) fn forms<'t, R: Wait>(
     w: &mut Work<'_, 't>,
     rt: &R,
@@ -65,7 +65,7 @@ fn split_and_join(w: &mut Work<'_, '_>) -> Result<u64, HandleError>
     Ok(known)
 }
 
-/// Makes 1,000 forms, and so many times splits the pass that knows them, and joins it.
+/// Makes 1,000 forms, and this many times splits the pass that knows them, and joins it.
 pub(crate) fn splits<'t, R: Wait>(
     w: &mut Work<'_, 't>,
     rt: &R,
@@ -81,7 +81,7 @@ pub(crate) fn splits<'t, R: Wait>(
     Ok(sum)
 }
 
-/// The forms that a pass makes: so many, from a number on.
+/// The forms that a pass makes: this many, from a number on.
 #[derive(Clone, Copy)]
 struct Made {
     first: u32,
@@ -112,7 +112,7 @@ fn make<'t, R: Wait>(
     Ok(sum)
 }
 
-/// Makes so many forms by each of two passes, in two threads, and joins the passes.
+/// Makes this many forms by each of two passes, in two threads, and joins the passes.
 fn make_beside<'t, R: Threads + Wait + Sync>(
     rt: &R,
     alloc: Global,
@@ -139,7 +139,7 @@ fn make_beside<'t, R: Threads + Wait + Sync>(
     Ok(a.wrapping_add(b))
 }
 
-/// Makes so many forms on one table, half of them in another thread.
+/// Makes this many forms on one table, half of them in another thread.
 pub(crate) fn made_beside<R: Threads + Wait + Sync>(
     rt: &R,
     alloc: Global,

@@ -1,5 +1,5 @@
-//! The program `mh_bench`: it does the work of one row so many times, to be timed from outside, and
-//! prints the row, the number and a sum over all answers.
+//! The program `mh_bench`: it does the work of one row a given number of times, to be timed from
+//! outside, and prints the row, the number and a sum over all answers.
 #![tactic(auto)]
 
 mod cells;

@@ -133,7 +133,7 @@ impl From<InternError> for Unfinished {
     }
 }
 
-/// The work of a row, so many times. The answer depends on all of it.
+/// The work of a row, this many times. The answer depends on all of it.
 pub(crate) fn measured<R: Threads + Wait + Sync>(
     rt: &R,
     alloc: Global,

@@ -107,7 +107,7 @@ const INTS_193: &str = "(\
 #[derive(Clone, Copy)]
 pub(crate) enum Args {
     Ints(&'static [i32]),
-    /// So many texts, each of so many characters, in memory of its own.
+    /// This many texts, each of this many characters, in memory of its own.
     Texts(usize, usize),
 }
 
@@ -144,7 +144,7 @@ fn int_args(alloc: Global, numbers: &[i32]) -> Result<Items, NoMemory> {
     Ok(args)
 }
 
-/// A text of so many characters.
+/// A text of this many characters.
 fn text_of(alloc: Global, length: usize) -> Result<Value, NoMemory> {
     let mut characters = Seq::new(alloc);
     for _ in 0..length {
@@ -153,7 +153,7 @@ fn text_of(alloc: Global, length: usize) -> Result<Value, NoMemory> {
     Ok(Value::Text(Frozen::of(alloc, characters)?))
 }
 
-/// So many texts as arguments, each of so many characters.
+/// This many texts as arguments, each of this many characters.
 fn text_args(alloc: Global, count: usize, length: usize) -> Result<Items, NoMemory> {
     let mut args = Seq::new(alloc);
     for _ in 0..count {
@@ -183,7 +183,7 @@ fn run_once<'t>(
     Ok(answer.calls().len() as u64)
 }
 
-/// Calls a handle so many times, and counts the leaf calls.
+/// Calls a handle this many times, and counts the leaf calls.
 fn run_each<'t>(
     alloc: Global,
     handle: &Handle<'t>,
@@ -209,8 +209,8 @@ fn characters_of(outcome: &Outcome) -> u64 {
     }
 }
 
-/// Calls a handle so many times in one machine, and counts the leaf calls and the characters of the
-/// texts that it returned.
+/// Calls a handle this many times in one machine, and counts the leaf calls and the characters of
+/// the texts that it returned.
 fn run_kept<'t>(
     alloc: Global,
     handle: &Handle<'t>,
@@ -231,7 +231,7 @@ fn run_kept<'t>(
     Ok(sum)
 }
 
-/// Asks so many times for the form of a handle with its first parameter bound.
+/// Asks this many times for the form of a handle with its first parameter bound.
 fn edit_each<'t, R: Wait>(
     w: &mut Work<'_, 't>,
     rt: &R,
@@ -253,7 +253,7 @@ fn edit_each<'t, R: Wait>(
     Ok(sum)
 }
 
-/// Binds the first parameter of so many copies of a handle.
+/// Binds the first parameter of this many copies of a handle.
 fn bind_each<'t, R: Wait>(
     w: &mut Work<'_, 't>,
     rt: &R,
@@ -275,7 +275,7 @@ fn bind_each<'t, R: Wait>(
     Ok(sum)
 }
 
-/// Calls a handle so many times.
+/// Calls a handle this many times.
 pub(crate) fn called<'t>(
     alloc: Global,
     handle: &Handle<'t>,
@@ -299,7 +299,7 @@ pub(crate) fn called<'t>(
     }
 }
 
-/// Makes a handle, and calls it so many times.
+/// Makes a handle, and calls it this many times.
 pub(crate) fn calls<'t, R: Wait>(
     w: &mut Work<'_, 't>,
     rt: &R,
@@ -316,7 +316,7 @@ pub(crate) fn calls<'t, R: Wait>(
     Ok(sum?)
 }
 
-/// Makes a handle, and asks so many times for its form with the first parameter bound.
+/// Makes a handle, and asks this many times for its form with the first parameter bound.
 fn edits<'t, R: Wait>(w: &mut Work<'_, 't>, rt: &R, turns: u32) -> Result<u64, HandleError>
     requires ready { IsReady w.old (219 + turns) }
 {
@@ -326,7 +326,7 @@ fn edits<'t, R: Wait>(w: &mut Work<'_, 't>, rt: &R, turns: u32) -> Result<u64, H
     sum
 }
 
-/// Makes a handle, and binds so many copies of it.
+/// Makes a handle, and binds this many copies of it.
 fn binds<'t, R: Wait>(w: &mut Work<'_, 't>, rt: &R, turns: u32) -> Result<u64, HandleError>
     requires ready { IsReady w.old (220 + turns) }
 {
@@ -362,7 +362,7 @@ fn text_filters() -> [Step; 60]
     [Step::Joined(TEXT, Joined::Filter(0)); 60]
 }
 
-/// Calls a handle so many times on a text, which goes through 60 filters.
+/// Calls a handle this many times on a text, which goes through 60 filters.
 fn texts<'t, R: Wait>(
     w: &mut Work<'_, 't>,
     rt: &R,
@@ -383,7 +383,7 @@ fn texts<'t, R: Wait>(
     calls(w, rt, subject, turns)
 }
 
-/// Calls a handle of ints so many times.
+/// Calls a handle of ints this many times.
 fn three_names<'t, R: Wait>(
     w: &mut Work<'_, 't>,
     rt: &R,
@@ -403,7 +403,7 @@ fn three_names<'t, R: Wait>(
     calls(w, rt, subject, turns)
 }
 
-/// Calls a tree of weight 256 so many times.
+/// Calls a tree of weight 256 this many times.
 fn tree<'t, R: Wait>(
     w: &mut Work<'_, 't>,
     rt: &R,
@@ -441,7 +441,7 @@ impl Branch {
     }
 }
 
-/// Calls such a root so many times.
+/// Calls such a root this many times.
 fn branches<'t, R: Wait>(
     w: &mut Work<'_, 't>,
     rt: &R,
@@ -461,7 +461,7 @@ fn branches<'t, R: Wait>(
     calls(w, rt, subject, turns)
 }
 
-/// The work of a row, so many times, on one table.
+/// The work of a row, this many times, on one table.
 fn row_on<'t, R: Wait>(
     w: &mut Work<'_, 't>,
     rt: &R,
@@ -488,7 +488,7 @@ fn row_on<'t, R: Wait>(
     }
 }
 
-/// The work of a row, so many times, by the first pass over a table.
+/// The work of a row, this many times, by the first pass over a table.
 fn first_on<R: Wait>(
     rt: &R,
     start: Start<'_>,
@@ -527,7 +527,7 @@ fn first_on<R: Wait>(
     done
 }
 
-/// The work of a row, so many times, on a table of its own.
+/// The work of a row, this many times, on a table of its own.
 fn once<R: Wait>(
     rt: &R,
     alloc: Global,
@@ -556,7 +556,7 @@ fn leaves_of(alloc: Global, row: Row) -> Result<Leaves, NoMemory> {
     read_manifest(alloc, manifest).map_err(|_| NoMemory)
 }
 
-/// The work of a row, so many times. The answer depends on all of it.
+/// The work of a row, this many times. The answer depends on all of it.
 pub(crate) fn measured<R: Wait>(
     rt: &R,
     alloc: Global,

@@ -8,7 +8,7 @@ use mh_base::NoMemory;
 use mh_script::{ScriptError, read_scripts};
 use std::alloc::Global;
 
-/// What is measured: the making and the reading of a file of so many scripts.
+/// What is measured: the making and the reading of a file of this many scripts.
 #[derive(Clone, Copy)]
 pub(crate) enum Row {
     /// Their owners have short names.
@@ -42,7 +42,7 @@ fn push_script(file: &mut String, owner: &str, number: u32) -> Result<(), NoMemo
     Ok(())
 }
 
-/// A file of so many scripts, each with an owner of its own.
+/// A file of this many scripts, each with an owner of its own.
 fn file_of(alloc: Global, owner: &str, count: u32) -> Result<String, NoMemory>
     ensures { IfOk result (λ file. string_bytes file ≡ file_text owner.now count) }
 {
@@ -64,7 +64,7 @@ fn count_of(alloc: Global, file: &[u8]) -> Result<u64, NoMemory>
     }
 }
 
-/// Makes and reads a file of so many scripts, and counts those that were read.
+/// Makes and reads a file of this many scripts, and counts those that were read.
 pub(crate) fn measured(alloc: Global, row: Row, turns: u32) -> Result<u64, NoMemory>
     ensures { IfOk result (λ count. count ≡ script_count (file_text (owner row) turns)) }
 {

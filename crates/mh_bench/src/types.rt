@@ -23,7 +23,7 @@ pub(crate) enum Row {
     Duplicated,
     /// As `Live`, by one thread four times.
     OneThread,
-    /// As `Live`, by four threads beside each other, each with a bucket of its own.
+    /// As `Live`, by four concurrent threads, each with a bucket of its own.
     FourThreads,
 }
 
@@ -44,7 +44,7 @@ fn type_of(alloc: Global, ret: Option<Ty>, number: u32) -> Result<MethodTy, NoMe
     Ok(MethodTy { params, ret })
 }
 
-/// Makes a type so many times.
+/// Makes a type this many times.
 fn made(alloc: Global, turns: u32) -> Result<u64, NoMemory> {
     let mut sum: u64 = 0;
     for _ in 0..turns {
@@ -115,7 +115,7 @@ struct Asked {
     turns: u32,
 }
 
-/// Asks so many times for a type and releases it.
+/// Asks this many times for a type and releases it.
 fn turn_each<R: Wait>(
     rt: &R,
     alloc: Global,
@@ -136,7 +136,7 @@ fn turn_each<R: Wait>(
     Ok(sum)
 }
 
-/// A bucket whose types are held. One of them is asked for so many times.
+/// A bucket whose types are held. One of them is asked for this many times.
 fn live<R: Wait>(
     rt: &R,
     alloc: Global,
@@ -151,7 +151,7 @@ fn live<R: Wait>(
     turn_each(rt, alloc, table, seat, asked)
 }
 
-/// A bucket whose types nobody holds. One of them is asked for so many times.
+/// A bucket whose types nobody holds. One of them is asked for this many times.
 fn dead<R: Wait>(
     rt: &R,
     alloc: Global,
@@ -186,7 +186,7 @@ fn dup_turn(
     Ok(())
 }
 
-/// Copies a hold so many times, and releases each copy.
+/// Copies a hold this many times, and releases each copy.
 fn dup_each(
     alloc: Global,
     table: &TypeTable,
@@ -204,7 +204,7 @@ fn dup_each(
     Ok(())
 }
 
-/// A hold that is copied so many times.
+/// A hold that is copied this many times.
 fn duplicated<R: Wait>(
     rt: &R,
     alloc: Global,
@@ -235,7 +235,7 @@ fn lane<R: Wait>(
     live(rt, alloc, table, &mut seat, asked)
 }
 
-/// Two threads beside each other.
+/// Two concurrent threads.
 fn two_lanes<R: Threads + Wait + Sync>(
     rt: &R,
     alloc: Global,
@@ -254,7 +254,8 @@ fn two_lanes<R: Threads + Wait + Sync>(
     Ok(first?.wrapping_add(second?))
 }
 
-/// Types of four buckets, whose words lie on cache lines of their own, each asked for so many times.
+/// Types of four buckets, whose words lie on cache lines of their own, each asked for this many
+/// times.
 fn four_asked(turns: u32) -> [Asked; 4] {
     let [first, second, third] = [5, 10, 20].map(|number| Ty::Class(ClassId(number)));
     [None, Some(first), Some(second), Some(third)].map(|ret| Asked { ret, turns })
@@ -312,7 +313,7 @@ fn beside<R: Threads + Wait + Sync>(
     Ok(front?.wrapping_add(back?))
 }
 
-/// The work of a row, so many times.
+/// The work of a row, this many times.
 pub(crate) fn measured<R: Threads + Wait + Sync>(
     rt: &R,
     alloc: Global,

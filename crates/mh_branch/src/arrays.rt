@@ -66,7 +66,7 @@ fn gather_growth<'t>(
     ensures ty { IfOk result (λ by. by.ty ≡ ty) }
     ensures adds { IfOk result (AddsGather target.now gathered.array gathered.count) }
 {
-    // A handle has the shape of its type, and each class stands after its superclass.
+    // A handle has the shape of its type, and each class comes after its superclass.
     let (_ty, _classes) = (target.ty(), w.classes());
     let component = component_of(gathered.array);
     let fields = one_field(w.alloc, Field::Comp(component))?;
@@ -107,7 +107,7 @@ pub fn gather_of<'t, R: Wait>(
 {
     match gather_growth(w, &target, gathered, ty) {
         Ok(by) => target.grown(w, rt, by),
-        Err(NoMemory) => target.refused(w, CheckError::NoMemory),
+        Err(NoMemory) => target.refuse(w, CheckError::NoMemory),
     }
 }
 
@@ -138,6 +138,6 @@ pub fn gather<'t, R: Wait>(
     let gathered = Gathered { array, count };
     match gather_type(w, &target, gathered) {
         Ok(ty) => gather_of(w, rt, target, gathered, ty),
-        Err(error) => target.refused(w, error),
+        Err(error) => target.refuse(w, error),
     }
 }

@@ -39,7 +39,7 @@ impl<'t> Branches<'t> {
     }
 
     /// Gives back the handles of a guard, and answers the refusal.
-    fn refused(self, w: &mut Work<'_, 't>, error: CheckError) -> Result<Handle<'t>, HandleError>
+    fn refuse(self, w: &mut Work<'_, 't>, error: CheckError) -> Result<Handle<'t>, HandleError>
         requires of_types { w.old.seat.now.table ≡ w.old.types.now }
         requires held { HoldsTypes w.old
             (self.test.held ++ self.target.held ++ self.fallback.held) }
@@ -56,7 +56,7 @@ impl<'t> Branches<'t> {
         } = self;
         test.give_back(w);
         target.give_back(w);
-        fallback.refused(w, error)
+        fallback.refuse(w, error)
     }
 }
 
@@ -97,9 +97,9 @@ pub fn guard_of<'t, R: Wait>(
                 key,
                 parts,
             };
-            Handle::rooted(w, rt, by)
+            Handle::make_rooted(w, rt, by)
         }
-        Err(NoMemory) => branches.refused(w, CheckError::NoMemory),
+        Err(NoMemory) => branches.refuse(w, CheckError::NoMemory),
     }
 }
 
@@ -137,7 +137,7 @@ pub fn guard<'t, R: Wait>(
     };
     match branches.ty(w) {
         Ok(ty) => guard_of(w, rt, branches, ty),
-        Err(error) => branches.refused(w, error),
+        Err(error) => branches.refuse(w, error),
     }
 }
 
@@ -160,7 +160,7 @@ impl<'t> Caught<'t> {
     }
 
     /// Gives back the handles of a catch, and answers the refusal.
-    fn refused(self, w: &mut Work<'_, 't>, error: CheckError) -> Result<Handle<'t>, HandleError>
+    fn refuse(self, w: &mut Work<'_, 't>, error: CheckError) -> Result<Handle<'t>, HandleError>
         requires of_types { w.old.seat.now.table ≡ w.old.types.now }
         requires held { HoldsTypes w.old (self.target.held ++ self.handler.held) }
         ensures unchanged { IsUnchanged w.old w.new }
@@ -174,7 +174,7 @@ impl<'t> Caught<'t> {
             handler,
         } = self;
         target.give_back(w);
-        handler.refused(w, error)
+        handler.refuse(w, error)
     }
 }
 
@@ -203,7 +203,7 @@ pub fn catch_of<'t, R: Wait>(
         → StandsIn w.old caught.entry.handler b
         → IfOk result (λ h. StandsIn w.old h (tree.Catch a caught.entry.class b)) }
 {
-    // Each class stands after its superclass.
+    // Each class comes after its superclass.
     let _classes = w.classes();
     let weight = caught.weight();
     match catch_key(w.alloc, &ty, &caught.handler) {
@@ -215,9 +215,9 @@ pub fn catch_of<'t, R: Wait>(
                 key,
                 parts,
             };
-            Handle::rooted(w, rt, by)
+            Handle::make_rooted(w, rt, by)
         }
-        Err(NoMemory) => caught.refused(w, CheckError::NoMemory),
+        Err(NoMemory) => caught.refuse(w, CheckError::NoMemory),
     }
 }
 
@@ -256,6 +256,6 @@ pub fn catch<'t, R: Wait>(
     };
     match caught.ty(w) {
         Ok(ty) => catch_of(w, rt, caught, ty),
-        Err(error) => caught.refused(w, error),
+        Err(error) => caught.refuse(w, error),
     }
 }

@@ -55,7 +55,7 @@ pub fn constant<'t, R: Wait>(
         },
         parts: Parts::of_fields(w.alloc, fields),
     };
-    Handle::rooted(w, rt, by)
+    Handle::make_rooted(w, rt, by)
 }
 
 /// A handle that returns its argument (`MethodHandles.identity`, SE 17). Refused if the type is
@@ -82,7 +82,7 @@ pub fn identity<'t, R: Wait>(
         },
         parts: Parts::new(w.alloc),
     };
-    Handle::rooted(w, rt, by)
+    Handle::make_rooted(w, rt, by)
 }
 
 /// A handle that throws its argument (`MethodHandles.throwException`, SE 17). Refused if the
@@ -109,5 +109,5 @@ pub fn throw<'t, R: Wait>(
         key: Key::ThrowRoot { ret: shape.ret },
         parts: Parts::new(w.alloc),
     };
-    Handle::rooted(w, rt, by)
+    Handle::make_rooted(w, rt, by)
 }

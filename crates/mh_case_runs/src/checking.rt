@@ -77,7 +77,7 @@ fn check_cases<R: Threads + Wait + Sync, S: Sink>(
     Ok(())
 }
 
-/// The cases of a file. Where they cannot be read it says why, and there is nothing.
+/// The cases of a file. If they cannot be read it says why, and there is nothing.
 fn read_file<I: Inputs, S: Sink>(
     alloc: Global,
     inputs: &mut I,
@@ -112,7 +112,7 @@ fn read_file<I: Inputs, S: Sink>(
     }
 }
 
-/// Runs the cases of the files of these names, says which differ and how many agree, and answers
+/// Runs the cases of the files of these names, and says which differ and how many agree. Answers
 /// whether each file was read, there is a case, and each case agrees.
 pub fn check_files<R: Threads + Wait + Sync, I: Inputs, S: Sink>(
     rt: &R,

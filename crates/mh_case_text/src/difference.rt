@@ -45,7 +45,7 @@ pub fn first_difference<'t>(wanted: &'t [u8], found: &'t [u8]) -> Option<Differe
     })
 }
 
-/// The first line of a text without its end, and a remark where the text ends there.
+/// The first line of a text without its end, and a remark if the text ends there.
 pub fn shown_line(text: &[u8]) -> (&[u8], &'static str) {
     match split_once(text, b'\n') {
         Some((line, _)) => (line, ""),

@@ -135,7 +135,7 @@ impl Part {
 }
 
 impl Draft {
-    /// A case of which only the name is known.
+    /// A case with only its name.
     pub(crate) fn new(alloc: Global, name: &str) -> Result<Draft, AllocError> {
         Ok(Draft {
             name: String::from_str(alloc, name)?,

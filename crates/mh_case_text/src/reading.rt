@@ -57,7 +57,7 @@ impl Reading {
     }
 }
 
-/// The cases of a text, in order; or the first line that is wrong, which is the last one where the
+/// The cases of a text, in order; or the first line that is wrong, which is the last one if the
 /// text ends within a case. Empty lines and those with `#` in front are passed over. A case has these
 /// lines:
 ///

@@ -3,7 +3,7 @@ use Rattle.std.specs.Prelude.{◌≡◌, ℕ, List, length, map, slice_get, Opti
 use Rattle.std.specs.Option.{option_map}
 use Rattle.mh_setonce.specs.Learnings.{LearntView, node_of}
 
--- the values of cells, where they were learnt
+-- the values of cells, if they were learnt
 abbrev pub values_of : {V : Type 0} → List (Option (LearntView V)) → List (Option V)
 values_of ls = map (option_map node_of) ls
 
@@ -12,7 +12,7 @@ pub record AreLearnt {V : Type 0} (key : V → ℕ) (cells : List ℕ) (ls : Lis
   pub count : length ls ≡ length cells
   pub noted : (at : ℕ) (l : LearntView V) → slice_get ls at ≡ Some (Some l) → (slice_get cells at ≡ Some l.cell) × (key l.node ≡ at)
 
--- where both were learnt, they are of one cell
+-- if both values were learnt, they are of the same cell
 abbrev pub AreOfOne : {V : Type 0} → Option (LearntView V) → Option (LearntView V) → Type 0
 AreOfOne {V} mine theirs = (a b : LearntView V) → mine ≡ Some a → theirs ≡ Some b → b.cell ≡ a.cell
 

@@ -20,7 +20,7 @@ known_coded {V} c = code_by (List ℕ × List (Option V)) (coded× (coded_list c
 abbrev pub value_at : {V : Type 0} → List (Option V) → ℕ → Option V
 value_at values at = option_flatten (slice_get values at)
 
--- of these cells nothing was learnt
+-- nothing was learnt of these cells
 abbrev pub nothing_of : {V : Type 0} → List ℕ → KnownView V
 nothing_of cells = record { cells = cells; values = replicate (length cells) None }
 
@@ -28,7 +28,7 @@ nothing_of cells = record { cells = cells; values = replicate (length cells) Non
 abbrev pub IsValueAt : {V : Type 0} → (V → ℕ) → List (Option V) → ℕ → V → Type 0
 IsValueAt key values at v = (value_at values at ≡ Some v) × (key v ≡ at)
 
--- the value of the cell at the place, or none where none was learnt
+-- the value of the cell at the place, or none if none was learnt
 abbrev pub Finds : {V : Type 0} → (V → ℕ) → List (Option V) → ℕ → Option (Bor V) → Type 0
 Finds key values at None = value_at values at ≡ None
 Finds key values at (Some v) = IsValueAt key values at v.now
@@ -43,12 +43,12 @@ pub record LearnsAt {V : Type 0} (at : ℕ) (old new : KnownView V) : Type 0 whe
   pub values : Keeps old.values new.values
   pub others : (i : ℕ) → i ≢ at → value_at new.values i ≡ value_at old.values i
 
--- what stands in the cell after a put of a value: ours, or another one; ours is handed back then
+-- what the cell has after a put of a value: ours, or another one, and then ours is handed back
 abbrev pub PutsHere : {V : Type 0} → (V → ℕ) → List (Option V) → ℕ → V → Put V → Type 0
 PutsHere key values at ours (Mine v) = (v.now ≡ ours) × IsValueAt key values at v.now
 PutsHere key values at ours (Theirs v back) = (back ≡ ours) × IsValueAt key values at v.now
 
--- the same, and ours is handed back where no memory is left
+-- the same, and ours is handed back if no memory is left
 abbrev pub Puts : {V : Type 0} → (V → ℕ) → List (Option V) → ℕ → V → Result (Put V) V → Type 0
 Puts key values at ours (Ok put) = PutsHere key values at ours put
 Puts key values at ours (Err back) = back ≡ ours

@@ -24,7 +24,7 @@ impl<V: Keyed<Key = u32>> Model for Cells<V> {
 }
 
 impl<V: Keyed<Key = u32>> Cells<V> {
-    /// So many cells, none of which is set.
+    /// This many cells, none of them set.
     pub fn new(alloc: Global, count: usize) -> Result<Cells<V>, NoMemory>
         ensures { IfOk result (λ cells. length cells ≡ count) }
     {

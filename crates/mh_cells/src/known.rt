@@ -13,8 +13,8 @@ use std::marker::Model;
 use std::sync::Wait;
 
 /// What its holder has learnt of a row of cells: for each cell its value, if it was learnt, with a
-/// note of the cell, so that what different threads have learnt agrees. Contracts see the names of
-/// the cells, and the values.
+/// note of the cell. By the notes, what different threads have learnt agrees. Contracts see the
+/// names of the cells, and the values.
 #[derive(Drop)]
 pub struct Known<'t, V: Keyed<Key = u32>> {
     cells: &'t Cells<V>,
@@ -48,7 +48,7 @@ impl<'t, V: Keyed<Key = u32>> Known<'t, V> {
         Ok(Known { cells, learnt })
     }
 
-    /// The same once more, which learns on its own.
+    /// A copy, which learns on its own.
     pub fn copy(&mut self, alloc: Global) -> Result<Known<'t, V>, NoMemory>
         ensures same { self.new ≡ self.old }
         ensures copy { IfOk result (λ copy. copy ≡ self.old) }
@@ -111,8 +111,8 @@ impl<'t, V: Keyed<Key = u32>> Known<'t, V> {
 
     /// The value of a cell, if it was learnt or the cell shows one now. It takes no memory.
     ///
-    /// No code puts a value into a cell that it does not belong to, but a cell does not say so:
-    /// such a value is passed by.
+    /// No code puts a value into a cell that it does not belong to, but a cell does not say so.
+    /// Such a value is skipped.
     pub fn find(&mut self, at: u32) -> Option<&'t V>
         requires { at < length self.old.cells }
         ensures learns { LearnsAt at self.old self.new }
@@ -125,10 +125,10 @@ impl<'t, V: Keyed<Key = u32>> Known<'t, V> {
         self.keep(at, one)
     }
 
-    /// Puts a value into its cell, unless one stands there. It is handed back then, and where no
+    /// Puts a value into its cell, unless the cell has one. It is handed back then, and if no
     /// memory is left.
     ///
-    /// A cell that shows a value which does not belong there is asked again: hence `rt`.
+    /// A cell that shows a value that does not belong there is asked again; for that it takes `rt`.
     pub fn put<R: Wait>(
         &mut self,
         rt: &R,
@@ -151,7 +151,7 @@ impl<'t, V: Keyed<Key = u32>> Known<'t, V> {
         Ok(self.put_boxed(rt, at, boxed))
     }
 
-    // Puts a value into its cell, of which nothing was learnt.
+    // Puts a value into its cell, if nothing was learnt of that cell.
     fn put_boxed<R: Wait>(&mut self, rt: &R, at: u32, mut value: Box<V>) -> Put<'t, V>
         requires place { at < length self.old.cells }
         requires new { value_at self.old.values at ≡ None }
@@ -168,7 +168,7 @@ impl<'t, V: Keyed<Key = u32>> Known<'t, V> {
         unreachable!()
     }
 
-    // One try of a put, which hands the value back where it may be tried again.
+    // One try of a put, which hands the value back if it may be tried again.
     fn try_put(&mut self, at: u32, value: Box<V>) -> Result<Put<'t, V>, Box<V>>
         requires place { at < length self.old.cells }
         requires new { value_at self.old.values at ≡ None }

@@ -4,8 +4,8 @@ ghost use Rattle.once_cell.specs.Once.{cell_name};
 use once_cell::race::{Note, OnceBox};
 use std::marker::Model;
 
-/// A value beside the note of its cell, which holds it for good. Contracts see the value and the
-/// name of the cell.
+/// A value with the note of its cell, which holds it for good. Contracts see the value and the name
+/// of the cell.
 #[derive(Drop)]
 pub(crate) struct Learnt<'t, V> {
     node: &'t V,
@@ -42,7 +42,7 @@ impl<'t, V> Learnt<'t, V> {
         self.node
     }
 
-    /// The same once more. It takes no memory.
+    /// A copy. It takes no memory.
     pub(crate) fn again(&mut self) -> Learnt<'t, V>
         ensures same { self.new ≡ self.old }
         ensures copy { result ≡ self.old }
@@ -65,7 +65,7 @@ impl<'t, V> Learnt<'t, V> {
 }
 
 impl<'t, V: Drop> Learnt<'t, V> {
-    /// What the cell shows from now on, and the value where the cell had another one.
+    /// What the cell shows from now on, and the value if the cell had another one.
     pub(crate) fn put(cell: &'t OnceBox<V>, value: Box<V>) -> (Learnt<'t, V>, Option<Box<V>>)
         ensures noted { result.0.cell ≡ cell_name cell.entry.now }
         ensures mine { IfNone result.1 (result.0.node ≡ value.value) }

@@ -1,4 +1,4 @@
-//! Cells in a row, each of which is set once, and what a thread has learnt of them. A value belongs
+//! Cells in a row, which are each set once, and what a thread has learnt of them. A value belongs
 //! to the cell at its key. What is learnt takes two words for each cell; learning takes no memory.
 #![tactic(auto)]
 

@@ -4,7 +4,7 @@ ghost use Rattle.mh_cells.specs.Learning.{AreOfOne, HasBoth};
 
 use crate::learnt::Learnt;
 
-/// The same once more. It takes no memory.
+/// A copy. It takes no memory.
 pub(crate) fn again<'t, V>(learnt: &mut Option<Learnt<'t, V>>) -> Option<Learnt<'t, V>>
     ensures same { learnt.new ≡ learnt.old }
     ensures copy { result ≡ learnt.old }

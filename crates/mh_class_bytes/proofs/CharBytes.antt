@@ -5,9 +5,9 @@ use Rattle.std.proofs.lemmas.List.{append-nil}
 use Rattle.std.proofs.lemmas.List.Concat.{flat_map-cons}
 use Rattle.std.specs.List.{flat_map}
 use Rattle.mh_class_bytes.specs.Mutf8.{unit_bytes}
-use Rattle.mh_class_bytes.specs.Chars.{is_high, is_low, joined, units_of}
+use Rattle.mh_class_bytes.specs.Chars.{is_high, is_low, pair_value, units_of}
 
-pub units_of-joined : (u v : ℕ) → (is_high u && is_low v) ≡ true → units_of (joined u v) ≡ u ∷ v ∷ []
+pub units_of-joined : (u v : ℕ) → (is_high u && is_low v) ≡ true → units_of (pair_value u v) ≡ u ∷ v ∷ []
 units_of-joined u v h =
     let u1 : 0xD800 ≤ u = grind (arith, nat_tests) in
     let u2 : u < 0xDC00 = grind (arith, nat_tests) in
@@ -33,6 +33,6 @@ char_bytes c = flat_map unit_bytes (units_of c)
 pub char_bytes-small : (u : ℕ) → u < 2 ^ 16 → char_bytes u ≡ unit_bytes u
 char_bytes-small u h = ap (flat_map unit_bytes) (units_of-small u h) ∙ flat_map-cons unit_bytes u [] ∙ append-nil (unit_bytes u)
 
-pub char_bytes-joined : (u v : ℕ) → (is_high u && is_low v) ≡ true → char_bytes (joined u v) ≡ unit_bytes u ++ unit_bytes v
+pub char_bytes-joined : (u v : ℕ) → (is_high u && is_low v) ≡ true → char_bytes (pair_value u v) ≡ unit_bytes u ++ unit_bytes v
 char_bytes-joined u v h = ap (flat_map unit_bytes) (units_of-joined u v h) ∙ flat_map-cons unit_bytes u (v ∷ []) ∙ ap (λ (x : List ℕ). unit_bytes u ++ x)
     (flat_map-cons unit_bytes v [] ∙ append-nil (unit_bytes v))

@@ -5,7 +5,7 @@ use Rattle.std.proofs.lemmas.List.{length-append, take_at, drop_at, drop-drop}
 use Rattle.std.proofs.lemmas.List.Concat.{flat_map-cons}
 use Rattle.std.specs.List.{flat_map}
 use Rattle.mh_class_bytes.specs.Mutf8.{AreUnits, unit_bytes, unit_len}
-use Rattle.mh_class_bytes.specs.Chars.{unit_value, units_from, is_high, is_low, is_half, joined, spelled, IsLoneAt, preceded_by, chars_from, chars_of, shown, shown_text, IsShownAs}
+use Rattle.mh_class_bytes.specs.Chars.{unit_value, units_from, is_high, is_low, is_half, pair_value, spelled, IsLoneAt, preceded_by, chars_from, chars_of, shown, shown_text, IsShownAs}
 use Rattle.mh_class_bytes.proofs.Texts.{whole_text, unit_bytes-some}
 use Rattle.mh_class_bytes.proofs.Units.{IsSound, units_in-spelled, value-spelled}
 use Rattle.mh_class_bytes.proofs.FirstChar.{long_half, high_low}
@@ -99,16 +99,17 @@ found-apart at u v units hu hv apart r f false e =
 found-two : (at u v : ℕ) (units : List ℕ) → u < 2 ^ 16 → v < 2 ^ 16 → (r s : Result (List ℕ) ℕ) → FindsChars (at + 6) (flat_map unit_bytes units) s →
     FindsChars (at + length (unit_bytes u)) (flat_map unit_bytes (v ∷ units)) r
     → (t : Bool) → (is_high u && is_low v) ≡ t →
-    FindsChars at (flat_map unit_bytes (u ∷ v ∷ units)) (cond t (preceded_by (joined u v ∷ []) s) (cond (is_half u) (Err at) (preceded_by (u ∷ []) r)))
+    FindsChars at (flat_map unit_bytes (u ∷ v ∷ units)) (cond t (preceded_by (pair_value u v ∷ []) s) (cond (is_half u) (Err at) (preceded_by (u ∷ []) r)))
 found-two at u v units hu hv r s g f true e =
     let b = char_bytes-joined u v e in
     let hl = high_low u v e in
-    let len : length (char_bytes (joined u v)) ≡ 6 = omega (arith, ap length b, length-append (unit_bytes u) (unit_bytes v), long_half u hl.0, long_half v hl.1)
+    let len : length (char_bytes (pair_value u v)) ≡ 6 = omega
+    (arith, ap length b, length-append (unit_bytes u) (unit_bytes v), long_half u hl.0, long_half v hl.1)
     in
-    let whole : char_bytes (joined u v) ++ flat_map unit_bytes units ≡ flat_map unit_bytes (u ∷ v ∷ units) =
+    let whole : char_bytes (pair_value u v) ++ flat_map unit_bytes units ≡ flat_map unit_bytes (u ∷ v ∷ units) =
     ap (λ (x : List ℕ). x ++ flat_map unit_bytes units) b ∙ append_assoc (unit_bytes u) (unit_bytes v) (flat_map unit_bytes units)
     ∙ ap (λ (x : List ℕ). unit_bytes u ++ x) (sym (flat_map-cons unit_bytes v units)) ∙ sym (flat_map-cons unit_bytes u (v ∷ units)) in
-    subst (λ (x : List ℕ). FindsChars at x (preceded_by (joined u v ∷ []) s)) whole (after_char at 6 (joined u v) (flat_map unit_bytes units) s
+    subst (λ (x : List ℕ). FindsChars at x (preceded_by (pair_value u v ∷ []) s)) whole (after_char at 6 (pair_value u v) (flat_map unit_bytes units) s
     (grind (arith, nat_tests), grind (arith, nat_tests)) len g)
 found-two at u v units hu hv r s g f false e = subst (λ (x : List ℕ). FindsChars at x (cond (is_half u) (Err at) (preceded_by (u ∷ []) r)))
     (sym (flat_map-cons unit_bytes u (v ∷ units))) (found-apart at u v units hu hv e r f (is_half u) refl)

@@ -2,12 +2,12 @@
 use Rattle.std.proofs.Common.{◌≡◌, ℕ, ◌+◌, ◌<◌, ◌≤◌, Bool, true, false, ◌&&◌, cond, List, [], ◌∷◌, length, drop, Option, Some, None, Result, Ok, Err, refl, ap, ◌∙◌, arith}
 use Rattle.std.specs.Prelude.{unwrap_or}
 use Rattle.mh_class_bytes.specs.Mutf8.{unit_bytes}
-use Rattle.mh_class_bytes.specs.Chars.{units_from, is_high, is_low, is_half, joined, as_char, first_char, first_len, shown_unit, shown, preceded_by, chars_from}
+use Rattle.mh_class_bytes.specs.Chars.{units_from, is_high, is_low, is_half, pair_value, as_char, first_char, first_len, shown_unit, shown, preceded_by, chars_from}
 use Rattle.mh_class_bytes.proofs.Texts.{unit_bytes-some}
 use Rattle.mh_class_bytes.proofs.Units.{IsSound}
 use Rattle.mh_class_bytes.proofs.FirstChar.{Begins, pair, apart, last, value}
 
-shown-pair : (u v : ℕ) (us : List ℕ) → (is_high u && is_low v) ≡ true → shown (u ∷ v ∷ us) ≡ joined u v ∷ shown us
+shown-pair : (u v : ℕ) (us : List ℕ) → (is_high u && is_low v) ≡ true → shown (u ∷ v ∷ us) ≡ pair_value u v ∷ shown us
 unfolding shown
 shown-pair u v us h = rw h refl
 
@@ -43,7 +43,8 @@ abbrev pub told : Option ℕ → ℕ → Result (List ℕ) ℕ → Result (List 
 told None at rest = Err at
 told (Some c) at rest = preceded_by (c ∷ []) rest
 
-chars-pair : (at u v : ℕ) (us : List ℕ) → (is_high u && is_low v) ≡ true → chars_from at (u ∷ v ∷ us) ≡ preceded_by (joined u v ∷ []) (chars_from (at + 6) us)
+chars-pair : (at u v : ℕ) (us : List ℕ) → (is_high u && is_low v) ≡ true → chars_from at (u ∷ v ∷ us) ≡ preceded_by (pair_value u v ∷ [])
+    (chars_from (at + 6) us)
 unfolding chars_from
 chars-pair at u v us h = rw h refl
 

@@ -4,7 +4,7 @@ use Rattle.std.proofs.lemmas.Bool.{cases_lt}
 use Rattle.std.proofs.lemmas.Bool.Decides.{nat_tests}
 use Rattle.std.proofs.lemmas.List.{drop-drop, length-drop, nil_from_length}
 use Rattle.mh_class_bytes.specs.Mutf8.{unit_bytes, unit_len}
-use Rattle.mh_class_bytes.specs.Chars.{unit_value, units_from, is_high, is_low, joined, as_char, begins_pair, first_char, first_len}
+use Rattle.mh_class_bytes.specs.Chars.{unit_value, units_from, is_high, is_low, pair_value, as_char, begins_pair, first_char, first_len}
 use Rattle.mh_class_bytes.proofs.UnitLen.{unit_len-sound}
 use Rattle.mh_class_bytes.proofs.SoundLen.{unit_len-nil}
 use Rattle.mh_class_bytes.proofs.Units.{IsSound, units_in-nil, units_in-next, sound-begins, sound-rest, value-front}
@@ -28,7 +28,7 @@ no_middle true true c h = absurd cc
 -- How a sound text that is not empty begins.
 pub data Begins (bytes : List ℕ) : Type 0 where
   pair : (v : ℕ) (us : List ℕ) → units_from 0 bytes ≡ value bytes ∷ v ∷ us → (is_high (value bytes) && is_low v) ≡ true →
-      first_char bytes ≡ Some (joined (value bytes) v)
+      first_char bytes ≡ Some (pair_value (value bytes) v)
       → 6 ≡ first_len bytes → us ≡ units_from 0 (drop (first_len bytes) bytes) → IsSound (drop (first_len bytes) bytes) → first_len bytes ≤ length bytes →
       Begins bytes
   apart : (v : ℕ) (us : List ℕ) → units_from 0 bytes ≡ value bytes ∷ v ∷ us → (is_high (value bytes) && is_low v) ≡ false →
@@ -39,7 +39,7 @@ pub data Begins (bytes : List ℕ) : Type 0 where
       → length (unit_bytes (value bytes)) ≡ first_len bytes → [] ≡ units_from 0 (drop (first_len bytes) bytes) → IsSound (drop (first_len bytes) bytes) →
       first_len bytes ≤ length bytes → Begins bytes
 
-first-pair : (bytes : List ℕ) → begins_pair bytes ≡ true → (first_char bytes ≡ Some (joined (value bytes) (value (rest_of bytes))))
+first-pair : (bytes : List ℕ) → begins_pair bytes ≡ true → (first_char bytes ≡ Some (pair_value (value bytes) (value (rest_of bytes))))
     × (first_len bytes ≡ unit_len bytes + unit_len (rest_of bytes))
 unfolding first_char first_len
 first-pair bytes h = (rw h refl, rw h refl)

@@ -12,7 +12,7 @@ Found X = Result (X × Position) Short
 abbrev pub skip : ℕ → Position → Position
 skip n p = record { bytes = p.bytes; at = p.at + n }
 
--- the next n bytes, where so many are left
+-- the next n bytes, if n bytes are left
 abbrev pub bytes_at : ℕ → Position → Found (List ℕ)
 bytes_at n p = if nat_lt (length p.bytes) (p.at + n) then Err (record { at = p.at }) else Ok (take n (drop p.at p.bytes), skip n p)
 
@@ -20,7 +20,7 @@ bytes_at n p = if nat_lt (length p.bytes) (p.at + n) then Err (record { at = p.a
 abbrev pub number_at : ℕ → Position → Found ℕ
 number_at n p = if nat_lt (length p.bytes) (p.at + n) then Err (record { at = p.at }) else Ok (big_number n (drop p.at p.bytes), skip n p)
 
--- a cursor never goes back, nor over other bytes
+-- a cursor never goes back, and stays on its bytes
 pub record MovesOn (old new : Position) : Type 0 where
   pub bytes : new.bytes ≡ old.bytes
   pub onward : old.at ≤ new.at
@@ -30,7 +30,7 @@ abbrev pub Taken : {X Y : Type 0} → (X → Y) → Position → Result X Short 
 Taken view old (Ok x) new found = found ≡ Ok (view x, new)
 Taken view old (Err e) new found = (found ≡ Err e) × (new ≡ old)
 
--- a call on a cursor answered what stands at its old position, and only moved the cursor on
+-- a call on a cursor answered what is at its old position, and only moved the cursor on
 pub record Takes {X Y : Type 0} (view : X → Y) (old : Position) (result : Result X Short) (new : Position) (found : Found Y) : Type 0 where
   pub taken : Taken view old result new found
   pub moves : MovesOn old new

@@ -18,8 +18,8 @@ abbrev pub is_half : ℕ → Bool
 is_half u = nat_le 0xD800 u && nat_lt u 0xE000
 
 -- the supplementary character of a pair
-abbrev pub joined : ℕ → ℕ → ℕ
-joined high low = 0x10000 + 1024 * (high - 0xD800) + (low - 0xDC00)
+abbrev pub pair_value : ℕ → ℕ → ℕ
+pair_value high low = 0x10000 + 1024 * (high - 0xD800) + (low - 0xDC00)
 
 -- the units of a character: two for a supplementary one
 abbrev pub units_of : ℕ → List ℕ
@@ -33,7 +33,7 @@ AreChars cs = AllByRecursion (λ c. (c < 0x110000) × (is_half c ≡ false)) cs
 abbrev pub spelled : List ℕ → List ℕ
 spelled cs = flat_map (λ c. flat_map unit_bytes (units_of c)) cs
 
--- the first half without a partner: characters stand before it, and it begins no pair
+-- the first half without a partner: there are characters before it, and it begins no pair
 pub record IsLoneAt (bytes : List ℕ) (at : ℕ) : Type 0 where
   pub chars : List ℕ
   pub whole : AreChars chars
@@ -44,7 +44,7 @@ pub record IsLoneAt (bytes : List ℕ) (at : ℕ) : Type 0 where
   pub here : drop at bytes ≡ unit_bytes half ++ rest
   pub alone : (low : ℕ) (more : List ℕ) → is_high half ≡ true → is_low low ≡ true → ¬ (rest ≡ unit_bytes low ++ more)
 
--- the unit that the first so many bytes spell
+-- the unit that the first bytes spell, this many
 abbrev pub unit_value : ℕ → List ℕ → ℕ
 unit_value len bytes =
     if len == 1 then slice_index bytes 0
@@ -69,7 +69,7 @@ shown_unit u = if is_half u then 0xFFFD else u
 unfoldable pub shown : List ℕ → List ℕ
 shown [] = []
 shown (u ∷ []) = shown_unit u ∷ []
-shown (u ∷ v ∷ units) = if is_high u && is_low v then joined u v ∷ shown units else shown_unit u ∷ shown (v ∷ units)
+shown (u ∷ v ∷ units) = if is_high u && is_low v then pair_value u v ∷ shown units else shown_unit u ∷ shown (v ∷ units)
 
 -- a text is shown as these characters
 abbrev pub IsShownAs : List ℕ → List ℕ → Type 0
@@ -89,7 +89,7 @@ unfoldable pub chars_from : ℕ → List ℕ → Result (List ℕ) ℕ
 chars_from at [] = Ok []
 chars_from at (u ∷ []) = if is_half u then Err at else Ok (u ∷ [])
 chars_from at (u ∷ v ∷ units) =
-    if is_high u && is_low v then preceded_by (joined u v ∷ []) (chars_from (at + 6) units)
+    if is_high u && is_low v then preceded_by (pair_value u v ∷ []) (chars_from (at + 6) units)
     else (if is_half u then Err at else preceded_by (u ∷ []) (chars_from (at + length (unit_bytes u)) (v ∷ units)))
 
 -- the characters of a text, or the place of the first half without a partner
@@ -111,19 +111,19 @@ unfoldable pub first_char : List ℕ → Option ℕ
 first_char bytes =
     let rest = drop (unit_len bytes) bytes in
     let unit = unit_value (unit_len bytes) bytes in
-    if begins_pair bytes then Some (joined unit (unit_value (unit_len rest) rest)) else as_char unit
+    if begins_pair bytes then Some (pair_value unit (unit_value (unit_len rest) rest)) else as_char unit
 
 -- how many bytes the first character takes, or the half without a partner
 unfoldable pub first_len : List ℕ → ℕ
 first_len bytes = if begins_pair bytes then unit_len bytes + unit_len (drop (unit_len bytes) bytes) else unit_len bytes
 
--- what was answered is the characters that a text has, or the place where it has none; want of memory says nothing
+-- what was answered is the characters that a text has, or the place where it has none; about lack of memory nothing is said
 abbrev pub Decodes : {X : Type 0} → (X → List ℕ) → Result X CharsError → Result (List ℕ) ℕ → Type 0
 Decodes view (Ok x) chars = chars ≡ Ok (view x)
 Decodes view (Err NoMemory) chars = Unit {0}
 Decodes view (Err (LoneSurrogate at)) chars = chars ≡ Err at
 
--- the place that a refusal names, where it is no want of memory, has a property
+-- the place that a refusal names, unless memory ran out, has a property
 abbrev pub IfLone : {X : Type 0} → Result X CharsError → (ℕ → Type 0) → Type 0
 IfLone (Ok x) P = Unit {0}
 IfLone (Err NoMemory) P = Unit {0}

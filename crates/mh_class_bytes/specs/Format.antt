@@ -7,11 +7,11 @@ use Rattle.mh_class_bytes.specs.Bytes.{number_at, bytes_at, Found, MovesOn}
 use Rattle.mh_class_bytes.specs.declared.fault.Fault.{Fault}
 
 infixl 10 ◌>>=◌
--- A format of values: its parts and conditions in the order in which they are looked at, and what is wrong where one does not hold.
+-- A format of values: its parts and conditions in the order in which they are looked at, and what is wrong if one does not hold.
 pub data Format (K : Type 0) : Type 0 → Type 1 where
-  -- so many bytes, as a number, the highest byte first
+  -- this many bytes, as a number, the highest byte first
   number : K → ℕ → Format K ℕ
-  -- so many bytes
+  -- this many bytes
   run : K → ℕ → Format K (List ℕ)
   -- the place
   here : Format K ℕ
@@ -21,13 +21,13 @@ pub data Format (K : Type 0) : Type 0 → Type 1 where
   check : Bool → ℕ → K → Format K (Unit {0})
   -- no bytes, and this value
   done : {A : Type 0} → A → Format K A
-  -- nothing stands here
+  -- no value is spelled here
   refuse : {A : Type 0} → ℕ → K → Format K A
-  -- the first where the test holds, else the second
+  -- the first if the test holds, otherwise the second
   choose : {A : Type 0} → Bool → Format K A → Format K A → Format K A
   -- whatever is wrong inside is this fault
   blame : {A : Type 0} → ℕ → K → Format K A → Format K A
-  -- the next so many bytes are just this: what is wrong where they are too few, and at the first that is left over
+  -- the next bytes, this many, are exactly this: what is wrong if they are too few, and what is wrong at the first byte that is left over
   part : {A : Type 0} → K → ℕ → K → Format K A → Format K A
   -- one after the other
   ◌>>=◌ : {A B : Type 0} → Format K A → (A → Format K B) → Format K B
@@ -106,19 +106,19 @@ pub record Reads {K X Y : Type 0} (view : X → Y) (result : Result X (Fault K))
   pub found : Judges (λ x. (view x, new)) result (reads format old)
   pub moves : MovesOn old new
 
--- so many steps, each from what the ones before it left
+-- this many steps, each from what the ones before it left
 unfoldable pub repeated : {K S : Type 0} → (S → Format K S) → ℕ → S → Format K S
 repeated step zero s = done s
 repeated step (suc n) s = do
   next ← step s
   repeated step n next
 
--- a list of so many of one format, after others
+-- a list of this many of one format, after others
 abbrev pub listed : {K A : Type 0} → Format K A → List A → Format K (List A)
 listed one so_far = do
   x ← one
   done (so_far ++ x ∷ [])
 
--- a list of so many of one format
+-- a list of this many of one format
 abbrev pub times : {K A : Type 0} → Format K A → ℕ → Format K (List A)
 times one n = repeated (listed one) n []

@@ -17,7 +17,7 @@ AreUnits units = AllByRecursion (λ u. u < 2 ^ 16) units
 abbrev pub IsText : List ℕ → Type 0
 IsText bytes = (units : List ℕ) × AreUnits units × (bytes ≡ flat_map unit_bytes units)
 
--- a text stands before the place, and no unit is spelled there
+-- there is a text before the place, and no unit is spelled at it
 pub record IsBadAt (bytes : List ℕ) (at : ℕ) : Type 0 where
   pub within : at < length bytes
   pub before : IsText (take at bytes)
@@ -27,7 +27,7 @@ pub record IsBadAt (bytes : List ℕ) (at : ℕ) : Type 0 where
 abbrev pub is_continuation : ℕ → Bool
 is_continuation b = nat_le 0x80 b && nat_lt b 0xC0
 
--- how many bytes the first unit takes; 0 where none is spelled there
+-- how many bytes the first unit takes; 0 if none is spelled there
 unfoldable pub unit_len : List ℕ → ℕ
 unit_len [] = 0
 unit_len (a ∷ rest) =
@@ -37,12 +37,12 @@ unit_len (a ∷ rest) =
     (slice_index rest 1) then 3
     else 0))
 
--- how many bytes of whole units stand at the front, after the bytes inside the first one that are passed
+-- how many bytes of whole units are at the front, after the bytes inside the first one that are passed
 unfoldable pub sound_from : ℕ → List ℕ → ℕ
 sound_from inside [] = 0
 sound_from (suc inside) (b ∷ bytes) = suc (sound_from inside bytes)
 sound_from zero (b ∷ bytes) = if unit_len (b ∷ bytes) == 0 then 0 else suc (sound_from (unit_len (b ∷ bytes) - 1) bytes)
 
--- how many bytes of whole units stand at the front: all of a text, and otherwise the place of the first bad byte
+-- how many bytes of whole units are at the front: all of a text, and otherwise the place of the first bad byte
 abbrev pub sound_len : List ℕ → ℕ
 sound_len bytes = sound_from 0 bytes

@@ -1,6 +1,6 @@
 ghost use Rattle.std.specs.Prelude.{◌≡◌, ◌<◌, ◌≤◌, ◌^◌, length, IfOk, IsTrue, Some};
 ghost use Rattle.mh_class_bytes.specs.Mutf8.{unit_len};
-ghost use Rattle.mh_class_bytes.specs.Chars.{unit_value, as_char, joined, is_high, is_low, first_char, first_len};
+ghost use Rattle.mh_class_bytes.specs.Chars.{unit_value, as_char, pair_value, is_high, is_low, first_char, first_len};
 ghost use Rattle.mh_class_bytes.specs.Chars.{spelled, IfLone, IsLoneAt, Decodes, chars_of, IsShownAs, shown_text};
 
 use crate::text::{Text, unit_len};
@@ -75,7 +75,7 @@ fn as_char(unit: u32) -> Option<char>
 fn joined(high: u32, low: u32) -> Option<char>
     requires high { IsTrue (is_high high) }
     requires low { IsTrue (is_low low) }
-    ensures { result ≡ Some (joined high low) }
+    ensures { result ≡ Some (pair_value high low) }
 {
     char::from_u32(0x1_0000 + 1024 * (high - 0xD800) + (low - 0xDC00))
 }
@@ -106,8 +106,8 @@ fn read_first(bytes: &[u8]) -> First
 }
 
 impl<'b> Text<'b> {
-    /// The characters of the text. `LoneSurrogate` stands at the first half of a pair that has no
-    /// partner; without one there are characters.
+    /// The characters of the text. `LoneSurrogate` has the place of the first half of a pair
+    /// without a partner. If there is none, the text has characters.
     pub fn chars(&self, alloc: Global) -> Result<Vec<char>, CharsError>
         ensures ok { IfOk result (λ v. self.now ≡ spelled v.items) }
         ensures lone { IfLone result (IsLoneAt self.now) }
@@ -130,8 +130,8 @@ impl<'b> Text<'b> {
         Ok(chars)
     }
 
-    /// The characters of the text as they are shown: U+FFFD stands for each half of a pair that has
-    /// no partner.
+    /// The characters of the text as they are shown, with U+FFFD for each half of a pair without a
+    /// partner.
     pub fn shown(&self, alloc: Global) -> Result<Vec<char>, NoMemory>
         ensures ok { IfOk result (λ v. IsShownAs self.now v.items) }
         ensures exact { IfOk result (λ v. v.items ≡ shown_text self.now) }

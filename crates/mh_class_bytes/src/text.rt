@@ -44,7 +44,7 @@ impl<'b> Text<'b> {
         Text { bytes }
     }
 
-    /// The bytes of the text, as they stand in the file.
+    /// The bytes of the text, as they are in the file.
     pub fn bytes(&self) -> &'b [u8]
         ensures bytes { result.now ≡ self.now }
         ensures text { sound_len self.now ≡ length self.now }
@@ -76,7 +76,7 @@ pub fn mutf8_check<'b>(bytes: &'b [u8]) -> Result<Text<'b>, BadText>
     Ok(Text { bytes })
 }
 
-/// The place after the units of one byte that stand from a place on: most texts have no others.
+/// The place after the units of one byte from a place on; most texts have no others.
 fn pass_plain(bytes: &[u8], at: usize) -> usize
     requires { at ≤ length bytes.now }
     ensures onward { at ≤ result }
@@ -91,7 +91,7 @@ fn pass_plain(bytes: &[u8], at: usize) -> usize
     end
 }
 
-/// How many bytes the first unit takes; 0 where none is spelled there.
+/// How many bytes the first unit takes; 0 if none is spelled there.
 #[tactic(auto, unfolding(crate::specs::Mutf8::unit_len))]
 pub(crate) fn unit_len(bytes: &[u8]) -> usize
     ensures value { result ≡ unit_len bytes.now }

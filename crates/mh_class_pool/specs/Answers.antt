@@ -1,4 +1,4 @@
--- What functions answer that read a part of a class file and take memory.
+-- The answers of functions that read a part of a class file and take memory.
 use Rattle.std.specs.Prelude.{◌≡◌, Result, Ok, Err}
 use Rattle.mh_class_bytes.specs.Position.{Position}
 use Rattle.mh_class_bytes.specs.Bytes.{MovesOn}
@@ -7,7 +7,7 @@ use Rattle.mh_class_pool.specs.declared.fault.ClassKind.{ClassKind}
 use Rattle.mh_class_pool.specs.declared.fault.ClassError.{ClassError}
 use Rattle.mh_class_pool.specs.declared.fault.ClassError.TheVariants as errors
 
--- an error is the fault that was to be found; want of memory says nothing
+-- an error is the fault that was to be found; about lack of memory nothing is said
 abbrev pub Fails : {Y : Type 0} → ClassError → Checked ClassKind Y → Type 0
 Fails errors.NoMemory checked = Unit {0}
 Fails (errors.Fault f) checked = checked ≡ Err f

@@ -81,7 +81,7 @@ contents tag at =
 abbrev pub is_wide_tag : ℕ → Bool
 is_wide_tag tag = tag == CONSTANT_Long || tag == CONSTANT_Double
 
--- the next entry; at the last index there is no room for one that takes two, and in a pool that is full of Dynamic entries none for another
+-- the next entry; the last index has no room for one that takes two indexes, and a pool with the most Dynamic entries has none for another
 unfoldable pub entry : Bool → Bool → ClassPart Entry
 entry is_last is_full = do
   at ← here
@@ -135,15 +135,15 @@ is_kind _ _ = false
 abbrev pub Slot : Type 0
 Slot = Option (ℕ × Entry)
 
--- the indexes that an entry takes: a second one, which is not usable, where it is wide
+-- the indexes that an entry takes: a second one, which is not usable, if it is wide
 abbrev pub indexes_of : ℕ → Entry → List Slot
 indexes_of at e = if is_wide e then Some (at, e) ∷ None ∷ [] else Some (at, e) ∷ []
 
--- an index, where a Dynamic entry stands there
+-- an index, if a Dynamic entry stands there
 abbrev pub if_dynamic : ℕ → Entry → List ℕ
 if_dynamic i e = if is_dynamic e then i ∷ [] else []
 
--- likewise by what the index names
+-- the same, by what the index names
 abbrev pub dynamic_at : ℕ → Slot → List ℕ
 dynamic_at i None = []
 dynamic_at i (Some s) = if_dynamic i s.1
@@ -165,11 +165,11 @@ dynamics_before pool index = count_by (λ i. nat_lt i index) (dynamics pool)
 abbrev pub most_dynamics : ℕ
 most_dynamics = 256
 
--- a pool has so many of them that none may follow
+-- a pool has the most Dynamic entries that it may have
 abbrev pub is_full : List Slot → Bool
 is_full pool = nat_le most_dynamics (length (dynamics pool))
 
--- the next entry, where an index below the count is left for it
+-- the next entry, if an index below the count is left for it
 abbrev pub next_slots : ℕ → List Slot → ClassPart (List Slot)
 next_slots count so_far = choose (nat_le count (length so_far)) (done so_far) (do
   at ← here
@@ -198,11 +198,11 @@ abbrev pub slot_of : ℕ → Reading ClassKind Entry → Slot
 slot_of at (Ok e) = Some (at, e.0)
 slot_of at (Err f) = None
 
--- what stands at the place of a tag; 0 is no such place
+-- what is at the place of a tag; 0 is no such place
 abbrev pub slot_at : List ℕ → ℕ → Slot
 slot_at bytes at = if at == 0 then None else slot_of at (reads (entry false false) (record { bytes = bytes; at = at }))
 
--- an entry stands at each place that is kept
+-- there is an entry at each place that is kept
 pub record Stand (bytes places : List ℕ) : Type 0 where
   pub each : (k : ℕ) → k < length places → 0 < slice_index places k →
       is_ok (reads (entry false false) (record { bytes = bytes; at = slice_index places k })) ≡ true

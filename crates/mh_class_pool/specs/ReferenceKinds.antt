@@ -25,7 +25,7 @@ REF_invokeVirtual = 5
 abbrev pub REF_invokeStatic : ℕ
 REF_invokeStatic = 6
 
--- calls a method of just this class
+-- calls a method of exactly this class
 abbrev pub REF_invokeSpecial : ℕ
 REF_invokeSpecial = 7
 

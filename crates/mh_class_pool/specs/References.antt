@@ -21,7 +21,7 @@ abbrev pub ◌>>=◌ : Verdict → (Unit {0} → Verdict) → Verdict
 (Ok x) >>= f = f x
 (Err e) >>= f = Err e
 
--- a condition, with the fault where it does not hold
+-- a condition, with the fault if it does not hold
 abbrev pub holds : Bool → ℕ → ClassKind → Verdict
 holds b at kind = if b then Ok tt else fault at kind
 

@@ -7,9 +7,9 @@ use crate::numbers::{run, u1, u2, u4};
 use crate::tags;
 use mh_class_bytes::{Cursor, Text, mutf8_check};
 
-/// An entry of the constant pool (JVMS SE 17, 4.4). The numbers are indexes of the pool, but for
-/// `Integer`, for the two halves of a `Long`, high first, for the kind of a `MethodHandle`, and for
-/// the first of a `Dynamic` and an `InvokeDynamic`, which counts bootstrap methods.
+/// An entry of the constant pool (JVMS SE 17, 4.4). The numbers are indexes of the pool, with four
+/// exceptions: `Integer`, the two halves of a `Long`, high first, the kind of a `MethodHandle`, and
+/// the first number of a `Dynamic` or an `InvokeDynamic`. The latter counts bootstrap methods.
 #[derive(Debug, Drop)]
 pub enum Entry<'b> {
     Utf8(Text<'b>),
@@ -190,7 +190,7 @@ fn read_handle<'b>(cursor: &mut Cursor<'b>) -> Result<Entry<'b>, ClassFault>
     Ok(Entry::MethodHandle(kind, reference))
 }
 
-/// The contents of an entry but a Utf8 one, after its tag, which stands at `at`.
+/// The contents of an entry, except a Utf8 one, after its tag, which is at `at`.
 #[tactic(auto, unfolding(crate::specs::Entries::contents))]
 pub fn read_contents<'b>(
     tag: u8,
@@ -215,8 +215,8 @@ pub fn read_contents<'b>(
     }
 }
 
-/// The next entry; at the last index of the pool it must not take two, and in a pool that is full of
-/// Dynamic entries it must not be one.
+/// The next entry; at the last index of the pool it must not take two indexes, and in a pool with
+/// the most Dynamic entries it must not be one.
 #[tactic(auto, unfolding(crate::specs::Entries::entry))]
 pub fn read_entry<'b>(
     is_last: bool,

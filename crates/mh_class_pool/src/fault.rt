@@ -17,19 +17,20 @@ pub enum ClassKind {
     BadTag,
     /// An index that names no entry of the constant pool.
     BadIndex,
-    /// An index that names an entry of another kind than it must.
+    /// An index that names an entry of the wrong kind.
     WrongKind,
     /// A constant that is no modified UTF-8 (4.4.7).
     BadText,
     /// A `Code` attribute that is none of 4.7.3.
     BadCode,
-    /// A `BootstrapMethods` attribute that is none of 4.7.23, or an entry of it that is not there.
+    /// A `BootstrapMethods` attribute that is none of 4.7.23, or a bootstrap method that does not
+    /// exist.
     BadBootstraps,
     /// Bytes after the last attribute.
     Trailing,
     /// More call sites than were asked for.
     TooManySites,
-    /// A text that is no method descriptor (4.3.3) where one must stand.
+    /// A text in the place of a method descriptor (4.3.3) that is none.
     BadDescriptor,
     /// More than 256 Dynamic entries (4.4.10), which is a limit of this project.
     TooManyConstants,

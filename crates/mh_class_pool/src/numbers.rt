@@ -4,7 +4,7 @@ ghost use Rattle.mh_class_bytes.specs.Format.{Reads, number, run};
 use crate::fault::{ClassFault, ClassKind};
 use mh_class_bytes::Cursor;
 
-/// A number of one byte, or the fault of this kind where it does not fit.
+/// A number of one byte, or the fault of this kind if it does not fit.
 pub fn u1(cursor: &mut Cursor<'_>, kind: ClassKind) -> Result<u8, ClassFault>
     ensures reads { Reads (λ x. x) result cursor.old cursor.new (number kind 1) }
     ensures onward { OnOk result (cursor.old.at < cursor.new.at) }

@@ -15,7 +15,7 @@ use std::marker::Model;
 /// The most Dynamic entries that a class file may have, a limit of this project.
 const MOST_DYNAMICS: usize = 256;
 
-/// The constant pool: for each index the place of its entry's tag in the file, and 0 where there is
+/// The constant pool: for each index the place of its entry's tag in the file, and 0 if there is
 /// no entry; and the indexes of the Dynamic entries. Contracts see the entries, with their places.
 #[derive(Drop)]
 pub struct Pool<'b> {
@@ -36,7 +36,7 @@ impl<'b> Model for Pool<'b> {
 }
 
 impl<'b> Pool<'b> {
-    /// The number of indexes, 0 among them.
+    /// The number of indexes, including 0.
     pub fn len(&self) -> usize
         ensures { result ≡ length self.now }
     {
@@ -61,7 +61,7 @@ impl<'b> Pool<'b> {
         &self.dynamics
     }
 
-    /// How many Dynamic entries stand before an index: the number of the one there, from 0 on.
+    /// How many Dynamic entries come before an index: the number of the one there, from 0 on.
     pub fn dynamics_before(&self, index: u16) -> u16
         ensures { result ≡ dynamics_before self.now index }
     {
@@ -121,7 +121,7 @@ fn resume(bytes: &[u8], at: usize) -> Cursor<'_>
     Cursor::resume(bytes, at)
 }
 
-/// Notes the index of an entry, where that is a Dynamic one.
+/// Notes the index of an entry, if that is a Dynamic one.
 fn note(dynamics: &mut Vec<u16>, index: usize, entry: &Entry<'_>) -> Result<(), AllocError>
     requires { index < 2 ^ 16 }
     ensures { OnOk result (dynamics.new.items ≡ dynamics.old.items ++ if_dynamic index entry.now) }

@@ -194,7 +194,7 @@ fn check_index(pool: &Pool<'_>, marked: &mut Vec<bool>, index: usize) -> Result<
     }
 }
 
-/// Marks for so many texts, none of which was found to be a method descriptor so far.
+/// Marks for this many texts; none was found to be a method descriptor so far.
 fn unmarked(alloc: Global, len: usize) -> Result<Vec<bool>, ClassError>
     ensures items { IfOk result (λ v. v.items ≡ replicate len false) }
     ensures err { IfErr result (λ e. e ≡ NoMemory) }

@@ -27,7 +27,7 @@ enum File {
 enum Change {
     /// These bytes stand from a place on.
     Put(usize, &'static [u8]),
-    /// So many bytes are left, those at the front.
+    /// This many bytes are left, those at the front.
     Cut(usize),
     /// These bytes stand after the last.
     Append(&'static [u8]),

@@ -25,9 +25,9 @@ use std::alloc::Global;
 use std::marker::Brand;
 use std::sync::Wait;
 
-/// A call site, the lines of the script that links it, the arguments of a call, and what is wanted:
-/// how the call ends, with the numbers of the leaves that it calls and of the keys of the form that
-/// runs, or the error that is recorded.
+/// A call site, the lines of the script that links it, the arguments of a call, and what is
+/// expected. That is how the call ends, with the leaves that it calls and the number of keys of the
+/// form that runs; or the error that is recorded.
 #[derive(Clone, Copy)]
 pub(crate) struct Case {
     pub name: &'static str,
@@ -114,7 +114,7 @@ fn answer_text(alloc: Global, answer: &Answer, classes: &Classes) -> Result<Vec<
 }
 
 /// How a call of a linked site ends. If arguments do not have the types that the site takes, the
-/// answer is want of memory.
+/// answer is lack of memory.
 fn call_text<J: Run>(
     alloc: Global,
     linkage: &Linkage<'_, J>,

@@ -72,7 +72,7 @@ computed pool _ = (0, named pool None)
 abbrev pub dynamic_view : List Slot → ℕ → DynamicView
 dynamic_view pool i = let c = computed pool (slot pool i) in record { index = i; bootstrap = c.0; name = c.1.name; descriptor = c.1.descriptor }
 
--- the constant of an index; none where no entry is
+-- the constant of an index; none if there is no entry
 abbrev pub constant_of : List Slot → ℕ → Slot → Option Constant
 constant_of pool i None = None
 constant_of pool i (Some (at, entries.Integer n)) = Some (constants.Integer (cast_signed w32 n))

@@ -38,7 +38,7 @@ raised n = (n + 2 ^ 31) % 2 ^ 32
 abbrev pub padding : ℕ → ℕ → ℕ
 padding start at = 3 - (at - start) % 4
 
--- so many bytes, which say nothing of call sites
+-- this many bytes, which say nothing of call sites
 unfoldable pub passed : ℕ → ClassPart (Unit {0})
 passed len = do
   bytes ← run BadCode len
@@ -91,7 +91,7 @@ operands = do
   zeros ← number BadCode 2
   done (index, zeros)
 
--- the call site of an invokedynamic, where one more may be found
+-- the call site of an invokedynamic, if one more may be found
 unfoldable pub call_site : List Slot → Method → Bool → ℕ → ℕ → ClassPart Site
 call_site pool method has_room start at = do
   both ← blame at BadCode operands
@@ -113,7 +113,7 @@ instruction pool method has_room start = do
         skipped ← ordinary opcode start at
         done [])
 
--- the next instruction, where the code has not ended: its call site is found after those before it
+-- the next instruction, if the code has not ended: its call site comes after those before it
 abbrev pub next_site : List Slot → Method → ℕ → ℕ → ℕ → List Site → ClassPart (List Site)
 next_site pool method room start end so_far = do
   at ← here

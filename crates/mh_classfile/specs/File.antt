@@ -48,11 +48,11 @@ has_bootstrap count (Some (at, entries.InvokeDynamic bootstrap name)) = holds (n
 has_bootstrap count (Some (at, entries.Dynamic bootstrap name)) = holds (nat_lt bootstrap count) at BadBootstraps
 has_bootstrap count _ = Ok tt
 
--- the bootstrap methods of a class; none where it has no such attribute
+-- the bootstrap methods of a class; none if it has no such attribute
 abbrev pub rows_or_none : Option (List Row) → List Row
 rows_or_none found = unwrap_or found []
 
--- the end of a class file of so many bytes, and that its entries name bootstrap methods that are there
+-- the end of a class file of this many bytes; its entries name bootstrap methods that exist
 abbrev pub class_end : List Slot → List Site → List Row → ℕ → ClassPart Class
 class_end pool sites rows total = do
   at ← here
@@ -60,20 +60,20 @@ class_end pool sites rows total = do
   known ← verdict (each (has_bootstrap (length rows)) pool)
   done (class_of pool sites rows)
 
--- a class file of so many bytes after its members
+-- a class file of this many bytes, after its members
 abbrev pub class_rest : List Slot → List Site → ℕ → ClassPart Class
 class_rest pool sites total = do
   found ← class_attributes pool
   class_end pool sites (rows_or_none found) total
 
--- a class file of so many bytes after its pool, with at most so many call sites
+-- a class file of this many bytes, after its pool, with at most this many call sites
 abbrev pub class_body : List Slot → ℕ → ℕ → ClassPart Class
 class_body pool room total = do
   names ← class_names pool
   sites ← members pool room
   class_rest pool sites total
 
--- a class file of so many bytes, with at most so many call sites
+-- a class file of this many bytes, with at most this many call sites
 unfoldable pub class_file : ℕ → ℕ → ClassPart Class
 class_file room total = do
   count ← header
@@ -85,7 +85,7 @@ class_file room total = do
 abbrev pub class_read : ClassPart Class → Position → Checked ClassKind Class
 class_read format at = and_then (reads format at) (λ x. Ok x.0)
 
--- the bytes are a class file of this class, with at most so many call sites
+-- the bytes are a class file of this class, with at most this many call sites
 abbrev pub IsClassFile : ℕ → List ℕ → Class → Type 0
 IsClassFile room bytes c = Spells (class_file room (length bytes)) 0 bytes c
 
@@ -93,7 +93,7 @@ IsClassFile room bytes c = Spells (class_file room (length bytes)) 0 bytes c
 abbrev pub class_or_fault : ℕ → List ℕ → Checked ClassKind Class
 class_or_fault room bytes = class_read (class_file room (length bytes)) (record { bytes = bytes; at = 0 })
 
--- just one of two things there is: the one class that the bytes are, or the first fault, where they are none
+-- exactly one of two: the class that the bytes are, or the first fault if they are none
 abbrev pub IsEither : ℕ → List ℕ → Type 0
 IsEither room bytes =
     ((c : Class) × IsClassFile room bytes c × ((d : Class) → IsClassFile room bytes d → d ≡ c))

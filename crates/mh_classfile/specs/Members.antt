@@ -18,7 +18,7 @@ use Rattle.mh_classfile.specs.Code.{passed, code_sites}
 abbrev pub between : {A : Type 0} → ℕ → ClassKind → ClassPart A → Position → Reading ClassKind A
 between begin left contents end = and_then (reads contents (cut end.at (record { bytes = end.bytes; at = begin }))) (filled left end)
 
--- so many of one part, of which nothing is kept
+-- this many of one part; nothing of them is kept
 abbrev pub rows : ClassPart (Unit {0}) → ℕ → ClassPart (Unit {0})
 rows one n = repeated (λ _. one) n tt
 
@@ -43,7 +43,7 @@ attribute short pool = do
   name ← named_index short pool kinds.Utf8
   passed_contents short
 
--- so many attributes that are passed over
+-- this many attributes, which are passed over
 abbrev pub attributes : ClassKind → List Slot → ℕ → ClassPart (Unit {0})
 attributes short pool n = rows (attribute short pool) n
 
@@ -53,7 +53,7 @@ counted_attributes short pool = do
   count ← number short 2
   attributes short pool count
 
--- the code of a method: its length, from 1 to 65,535, and so many bytes
+-- the code of a method: its length, from 1 to 65,535, and that many bytes
 unfoldable pub code_bytes : List Slot → Method → ℕ → List Site → ClassPart (List Site)
 code_bytes pool method room so_far = do
   at ← here

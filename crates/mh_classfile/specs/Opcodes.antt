@@ -1,4 +1,4 @@
--- The opcodes that the reading of code tells apart (JVMS SE 17, 6.5; numbers in chapter 7). Those that it treats alike are named by the first and the last.
+-- The opcodes that the reader of code distinguishes (JVMS SE 17, 6.5; numbers in chapter 7). Those that it treats alike are named by the first and the last.
 use Rattle.std.specs.Prelude.{ℕ}
 
 -- does nothing, the first of the opcodes
@@ -165,7 +165,7 @@ multianewarray = 197
 abbrev pub ifnull : ℕ
 ifnull = 198
 
--- branches where not null
+-- branches if not null
 abbrev pub ifnonnull : ℕ
 ifnonnull = 199
 

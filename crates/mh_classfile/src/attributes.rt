@@ -43,7 +43,7 @@ fn pass_attribute(
     pass_contents(short, cursor)
 }
 
-/// Passes so many attributes.
+/// Passes over this many attributes.
 fn pass_attributes(
     short: ClassKind,
     pool: &Pool<'_>,

@@ -5,7 +5,7 @@ use mh_base::{NoMemory, Seq};
 use std::alloc::Global;
 use std::marker::Model;
 
-/// A bootstrap method: the index of its handle, and where its arguments stand in the list of all.
+/// A bootstrap method: the index of its handle, and the place of its arguments in the list of all.
 #[derive(Clone, Copy)]
 pub struct Span {
     pub handle: u16,

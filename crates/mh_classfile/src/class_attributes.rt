@@ -14,7 +14,7 @@ use mh_class_bytes::Cursor;
 use mh_class_pool::{ClassError, ClassFault, ClassKind, Kind, Pool, run, u2, u4};
 use std::alloc::Global;
 
-/// Reads so many static arguments.
+/// Reads this many static arguments.
 fn read_arguments(
     pool: &Pool<'_>,
     count: u16,
@@ -143,7 +143,7 @@ fn read_attributes(
     Ok(found)
 }
 
-/// Reads the attributes of a class: its bootstrap methods, where it has some.
+/// Reads the attributes of a class: its bootstrap methods, if it has some.
 #[tactic(auto, unfolding(crate::specs::Bootstraps::class_attributes))]
 pub fn read_class_attributes(
     alloc: Global,

@@ -120,7 +120,7 @@ fn pass_lookup_switch(start: usize, at: usize, cursor: &mut Cursor<'_>) -> Resul
     Ok(())
 }
 
-/// Passes so many bytes of code.
+/// Passes over this many bytes of code.
 #[tactic(auto, unfolding(crate::specs::Code::passed))]
 pub fn pass(len: usize, cursor: &mut Cursor<'_>) -> Result<(), ClassFault>
     ensures reads { Reads (λ x. x) result cursor.old cursor.new (passed len) }
@@ -217,7 +217,7 @@ fn read_call_site(
     })
 }
 
-/// The next instruction: its call site, where it is one.
+/// The next instruction: its call site, if it is one.
 #[tactic(auto, unfolding(crate::specs::Code::instruction))]
 fn read_instruction(
     code: &MethodCode<'_, '_>,

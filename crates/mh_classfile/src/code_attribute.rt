@@ -17,7 +17,7 @@ const MOST_BYTES: u32 = 65_535;
 /// How many bytes an exception entry takes (4.7.3).
 const HANDLER_LEN: usize = 8;
 
-/// Passes so many exception entries.
+/// Passes over this many exception entries.
 fn pass_handlers(count: u16, cursor: &mut Cursor<'_>) -> Result<(), ClassFault>
     ensures reads { Reads (λ x. x) result cursor.old cursor.new (rows (passed 8) count) }
 {

@@ -38,7 +38,7 @@ fn read_attribute(
     Ok(true)
 }
 
-/// Reads so many attributes of a method.
+/// Reads this many attributes of a method.
 fn read_attributes(
     pool: &Pool<'_>,
     method: Method,

@@ -121,7 +121,7 @@ pub const MULTIANEWARRAY: u8 = 197;
 /// `ifnull`: branches at null.
 pub const IFNULL: u8 = 198;
 
-/// `ifnonnull`: branches where not null.
+/// `ifnonnull`: branches if not null.
 pub const IFNONNULL: u8 = 199;
 
 /// `goto_w`: jumps by four bytes.

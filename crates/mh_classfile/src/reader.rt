@@ -91,7 +91,7 @@ fn methods_or_none(alloc: Global, found: Option<Bootstraps>) -> Bootstraps
     }
 }
 
-/// The class whose file of so many bytes was read up to a cursor.
+/// The class of a file of this many bytes, which was read up to a cursor.
 fn read_end<'b>(
     pool: Pool<'b>,
     sites: Sites,
@@ -154,11 +154,11 @@ fn read_exact<'b>(alloc: Global, bytes: &'b [u8], room: u32) -> Result<ClassView
     read_body(alloc, pool, room, bytes.len(), cursor)
 }
 
-/// The class that the bytes are, over the bytes, where it has at most `room` call sites; otherwise
-/// the first condition, in the order of reading, that does not hold (JVMS SE 17, 4.1). What is not
-/// looked at: flags, the spelling of names, the descriptors of fields and methods, attributes but
-/// `Code` and `BootstrapMethods`, where exception entries point, whether a method should have code, and
-/// what verification adds (4.8 to 4.10).
+/// The class that the bytes are, as a view of them, if it has at most `room` call sites. Otherwise
+/// the first condition, in the order of reading, that does not hold (JVMS SE 17, 4.1). It does not
+/// look at flags, the spelling of names, or the descriptors of fields and methods. Nor does it look
+/// at attributes except `Code` and `BootstrapMethods`, at what exception entries name, at whether a
+/// method should have code, or at what verification adds (4.8 to 4.10).
 pub fn read<'b>(alloc: Global, bytes: &'b [u8], room: u32) -> Result<ClassView<'b>, ClassError>
     // A view is the class of a class file.
     ensures found { IfOk result (λ v. IsClassFile room bytes.now v) }

@@ -50,7 +50,7 @@ impl Model for Sites {
 }
 
 impl Sites {
-    /// No sites, and room for so many.
+    /// No sites, and room for this many.
     pub fn new(alloc: Global, room: u32) -> Sites
         ensures { result ≡ record { sites = []; room = room } }
     {

@@ -41,5 +41,5 @@ pub fn concat<'t, R: Wait>(
         key: Key::ConcatRoot { shape },
         parts: Parts::of_fields(w.alloc, fields),
     };
-    Handle::rooted(w, rt, by)
+    Handle::make_rooted(w, rt, by)
 }

@@ -1,4 +1,4 @@
--- Depths as numbers, where 0 stands for none.
+-- Depths as numbers; 0 stands for none.
 use Rattle.std.specs.Prelude.{◌≡◌, ℕ, zero, suc, List, map, length, Option, Some, None, option_map, slice_index, unwrap_or}
 use Rattle.mh_link.specs.Named.{Constants}
 use Rattle.mh_link.specs.Depth.{depth_within, greatest}

@@ -1,4 +1,4 @@
--- The static arguments of an attempt, where constants are what its pass has learnt of them.
+-- The static arguments of an attempt, given what its pass has learnt of constants.
 use Rattle.std.specs.Prelude.{◌≡◌, ℕ, ◌<◌, ◌≤◌, List, [], ◌∷◌, length, slice_get, All, Option, None, Some, Ok, Err}
 use Rattle.mh_values.specs.declared.value.Exc.{Exc}
 use Rattle.mh_values.specs.declared.value.Value.{Value}

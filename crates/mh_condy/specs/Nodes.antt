@@ -9,7 +9,7 @@ use Rattle.mh_link.specs.Asking.{asked_by}
 use Rattle.mh_link.specs.Places.{Has}
 use Rattle.mh_condy.specs.Recorded.{ConstView, FindingView, IsConst}
 
--- for each constant what is recorded of it, where that is known
+-- for each constant what is recorded of it, if that is known
 abbrev pub Nodes : Type 0
 Nodes = List (Option ConstView)
 

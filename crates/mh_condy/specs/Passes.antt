@@ -12,8 +12,8 @@ pub record TableView : Type 0 where
   pub cells : List ℕ
   pub serials : TicketsId
 
--- a pass: its table, its thread, what it has learnt of each constant, the attempts that were made with it, those of them that it has
--- recorded, and the seat through which it draws serials
+-- A pass: its table, its thread, and what it has learnt of each constant. Also the attempts that were made with it, those that it has recorded, and the seat
+-- with which it draws serials.
 pub record PassView : Type 0 where
   pub table : TableView
   pub thread : ℕ

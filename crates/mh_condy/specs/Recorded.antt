@@ -34,8 +34,8 @@ constants_of findings = map (λ f. f.constant) findings
 
 -- ---- recorded constants
 
--- a recorded constant: its job, the serial of the attempt that made it, its value or error, and what its attempt has found of the constants that it looked at
--- itself, in order
+-- A recorded constant: its job, the serial of the attempt that made it, and its value or error. Also what its attempt has found of the constants that it looked
+-- at itself, in order.
 pub record ConstView : Type 0 where
   pub job : ConstJob
   pub serial : ℕ

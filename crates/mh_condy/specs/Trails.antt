@@ -1,4 +1,4 @@
--- How a pass goes through constants, in which order it attempts them, and what it makes beside other passes.
+-- How a pass goes through constants while other passes do, in which order it attempts them, and what it makes.
 use Rattle.std.specs.Prelude.{◌≡◌, ℕ, ◌+◌, ◌<◌, ◌≤◌, true, false, ◌||◌, ◌⊎◌, List, [], ◌∷◌, ◌++◌, map, Some}
 use Rattle.mh_link.specs.Named.{Constants}
 use Rattle.mh_link.specs.Depth.{most_depth, rank}
@@ -37,7 +37,7 @@ pub record GoesOn (run : Constants) (cs : List ℕ) (old new : Trail) : Type 0 w
   pub keeps : Keeps old.known new.known
   -- they and all that stands below them are known then, and no other than before
   pub known : (k : ℕ) → is_known new.known k ≡ (is_known old.known k || is_in (with_below (asked_by run (found_in new.known)) most_depth cs) k)
-  -- each that was not known is attempted once, where it first stands
+  -- each that was not known is attempted once, at its first place
   pub attempts : new.attempts ≡ old.attempts ++ first_new (is_known old.known) (with_below (asked_by run (found_in new.known)) most_depth cs)
   -- at most as many serials were drawn as constants became known, under each rank that is above theirs
   pub room : (r : ℕ) → ((c : ℕ) → Has cs c → rank run c < r) →
@@ -72,7 +72,7 @@ pub record AttemptsMore (run : Constants) (cs : List ℕ) (old new : Trail) : Ty
       Has (with_below (asked_by run (found_in all)) most_depth cs) c
   pub under : (r : ℕ) → ((c : ℕ) → Has cs c → rank run c < r) → (c : ℕ) → Has more c → rank run c < r
 
--- these constants are gone through, beside other passes
+-- the pass goes through these constants while other passes do
 pub record GoesBeside (run : Constants) (cs : List ℕ) (old new : Trail) : Type 0 where
   pub sound : AreOwnNodes run new
   pub keeps : Keeps old.known new.known

@@ -156,7 +156,7 @@ impl<'a, 's, 't, J: ConstRun> Attempt<'a, 's, 't, J> {
     }
 
     /// The last line of a script.
-    fn ended(&self, script: &Script) -> Result<Value, Failure>
+    fn run_end(&self, script: &Script) -> Result<Value, Failure>
         requires places { HavePlaces J.run self.now.call.now.arguments.parts }
         requires serial { self.now.serial < 2 ^ 63 }
         ensures { (arguments : List OneArgument) → AreGiven self.now arguments
@@ -174,7 +174,7 @@ impl<'a, 's, 't, J: ConstRun> Attempt<'a, 's, 't, J> {
     }
 
     /// The value that the lines of a script give.
-    fn ran(&self, script: &Script) -> Result<Value, Failure>
+    fn run_lines(&self, script: &Script) -> Result<Value, Failure>
         requires places { HavePlaces J.run self.now.call.now.arguments.parts }
         requires serial { self.now.serial < 2 ^ 63 }
         requires runs { CanRun script.now }
@@ -183,14 +183,14 @@ impl<'a, 's, 't, J: ConstRun> Attempt<'a, 's, 't, J> {
             (start_of self.now arguments)) }
     {
         match lines(self.alloc, self.serial, script.steps.as_slice()) {
-            Ok(()) => self.ended(script),
+            Ok(()) => self.run_end(script),
             Err(failure) => Err(failure),
         }
     }
 
     /// The value that a script gives as one of the constant's type. A script that makes a method handle
     /// throws before any line runs.
-    fn scripted(&self, script: &Script) -> Result<Value, Failure>
+    fn run_script(&self, script: &Script) -> Result<Value, Failure>
         requires places { HavePlaces J.run self.now.call.now.arguments.parts }
         requires serial { self.now.serial < 2 ^ 63 }
         requires runs { CanRun script.now }
@@ -200,7 +200,7 @@ impl<'a, 's, 't, J: ConstRun> Attempt<'a, 's, 't, J> {
         if !is_plain(script) {
             return Err(no_handles(self.alloc));
         }
-        let value = self.ran(script)?;
+        let value = self.run_lines(script)?;
         fitted(self.alloc, self.classes, self.call.ty, value)
     }
 
@@ -213,6 +213,6 @@ impl<'a, 's, 't, J: ConstRun> Attempt<'a, 's, 't, J> {
             → Tells result (script_value self.now.classes.now scripts.now self.now.call.now
             self.now.serial arguments) }
     {
-        self.scripted(scripts.get(self.call.script))
+        self.run_script(scripts.get(self.call.script))
     }
 }

@@ -59,7 +59,7 @@ impl<'s, 't, J: ConstRun> KnownConsts<'s, 't, J> {
         })
     }
 
-    /// The same, for another pass.
+    /// A copy, for another pass.
     pub(crate) fn copy(&mut self, alloc: Global) -> Result<KnownConsts<'s, 't, J>, NoMemory>
         ensures same { self.new ≡ self.old }
         ensures copy { IfOk result (λ copy. copy ≡ self.old) }

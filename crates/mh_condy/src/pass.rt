@@ -29,8 +29,9 @@ pub struct ConstAttempt {
     pub serial: u64,
 }
 
-/// What one thread knows of a table of constants: what it has learnt of each, its attempts, those of
-/// them that it has recorded, and the seat through which it draws serials. Contracts see all of it.
+/// What one thread knows of a table of constants: what it has learnt of each, its attempts, and
+/// those that it has recorded. It also has the seat with which it draws serials. Contracts see all
+/// of it.
 #[derive(Drop)]
 pub struct ConstPass<'s, 't, J: ConstRun> {
     thread: u32,
@@ -79,8 +80,8 @@ impl<'s, 't, J: ConstRun> ConstPass<'s, 't, J> {
     }
 
     /// A pass for another thread, which has learnt what this one has, and has attempted nothing. It
-    /// may draw 2^32 serials, for which this one must have room. If memory runs out, this pass is as
-    /// it was.
+    /// may draw 2^32 serials. This pass must have room for them. If memory runs out, this pass is
+    /// as it was.
     pub(crate) fn split(
         &mut self,
         alloc: Global,

@@ -3,9 +3,9 @@ ghost use Rattle.mh_link.specs.Named.{Constants};
 
 use std::marker::Brand;
 
-/// Names the constants of a run, in contracts. What is recorded of constants has a parameter of this
-/// trait, so that its type says of which run it is; whoever has the jobs, the scripts and the leaves
-/// at hand picks it by calling at [`Brand`].
+/// Names the constants of a run, in contracts. What is recorded of constants has a parameter of
+/// this trait, so that its type names its run. Whoever has the jobs, the scripts and the leaves
+/// picks it by calling at [`Brand`].
 pub trait ConstRun {
     ghost run: { Constants };
 }

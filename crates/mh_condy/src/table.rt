@@ -53,7 +53,7 @@ impl<'t, J: ConstRun> Model for ConstTable<'t, J> {
 }
 
 impl<'t, J: ConstRun> ConstTable<'t, J> {
-    /// A table of these constants of which none is resolved, and the first seat, through which all
+    /// A table of these constants, none of them resolved, and the first seat, with which all
     /// serials may be drawn.
     pub fn new(
         alloc: Global,
@@ -129,10 +129,11 @@ impl<'t, J: ConstRun> ConstTable<'t, J> {
         pass.join(self, other)
     }
 
-    /// What is recorded of a constant: what the pass has learnt, or its cell shows, or what an attempt
-    /// makes that is made now, unless another thread has recorded something meanwhile. An attempt
-    /// resolves the constants among the static arguments first, in their order, up to the first that
-    /// is an error. A constant that the pass has learnt takes no memory and changes nothing.
+    /// What is recorded of a constant: what the pass has learnt, or what its cell shows. Otherwise
+    /// what a new attempt makes, unless another thread has recorded something in the meantime. An
+    /// attempt resolves the constants among the static arguments first, in their order, up to the
+    /// first that is an error. A constant that the pass has learnt takes no memory and changes
+    /// nothing.
     ///
     /// The pass must have room for as many serials as there are constants that it has not learnt.
     pub fn resolve_const<'s, R: Wait>(

@@ -26,7 +26,7 @@ job_over number names script t name = record {
 abbrev pub are_below : ℕ → List ℕ → Bool
 are_below below names = list_all (λ d. nat_lt d below) names
 
--- the job is of the constant of a number, over others below another number, and its script is one of so many
+-- the job is of the constant of a number, over others below another number, and its script is one of this many
 pub record IsOver (below scripts number : ℕ) (job : ConstJob) : Type 0 where
   pub names : List ℕ
   pub script : ScriptId

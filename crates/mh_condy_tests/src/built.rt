@@ -128,7 +128,7 @@ fn add(alloc: Global, built: &mut Built, below: u32, entry: Entry<'_>) -> Result
     built.jobs.push(job)
 }
 
-/// All constants, of which there are to be so many.
+/// All constants, of which there are to be this many.
 fn all(built: Built, count: u32) -> Result<Built, NoMemory>
     requires { AreOver count built }
     ensures { IfOk result (λ built. AreResolvable (run_of built)) }
@@ -171,7 +171,7 @@ fn rung(alloc: Global, built: &mut Built, next: u32, rungs: u32) -> Result<(), N
     add(alloc, built, rungs, entry)
 }
 
-/// A ladder of so many rungs.
+/// A ladder of this many rungs.
 pub fn ladder(alloc: Global, rungs: u32) -> Result<Built, NoMemory>
     ensures { IfOk result (λ built. AreResolvable (run_of built)) }
 {
@@ -182,7 +182,7 @@ pub fn ladder(alloc: Global, rungs: u32) -> Result<Built, NoMemory>
     all(built, rungs)
 }
 
-/// One constant over so many others.
+/// One constant over this many others.
 pub fn wide(alloc: Global, others: u32) -> Result<Built, NoMemory>
     ensures { IfOk result (λ built. AreResolvable (run_of built)) }
 {

@@ -218,7 +218,7 @@ fn a_ladder_of_65_rungs_is_too_deep_at_its_top_alone(rt: HostRuntime) -> Result<
     Ok(())
 }
 
-/// What two passes answer of one constant over so many others.
+/// What two passes answer of one constant over this many others.
 fn spread<R: Wait>(rt: &R, alloc: Global, others: u32) -> Result<Seen, NoMemory> {
     let built = wide(alloc, others)?;
     answers_of(

@@ -27,7 +27,7 @@ pub(crate) enum By {
     Two,
 }
 
-/// A pass, and the constant for which it is asked.
+/// A pass, and the constant that it is asked for.
 pub(crate) type Ask = (By, u32);
 
 /// Asks each of two passes in turn.

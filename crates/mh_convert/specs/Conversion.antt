@@ -34,7 +34,7 @@ widens primitive.S q = is_same_primitive q primitive.I || is_same_primitive q pr
 widens primitive.I q = is_same_primitive q primitive.J
 widens primitive.J q = false
 
--- a number of the first primitive type serves as one of the second: they are one, or the first widens to the second
+-- a number of the first primitive type serves as one of the second: they are equal, or the first widens to the second
 abbrev pub serves_as : Primitive → Primitive → Bool
 serves_as p q = is_same_primitive p q || widens p q
 
@@ -59,8 +59,8 @@ can_as_type classes _ _ = true
 abbrev pub may_hold_number : List Class → ClassId → Bool
 may_hold_number classes s = list_any (λ p. is_subclass classes (wrapper_of p) s) primitives
 
--- whether a value of the first type may be converted to the second explicitly: each primitive type to each other one, and a reference to each
--- primitive type if it may be a boxed number
+-- Whether a value of the first type may be converted to the second explicitly. Each primitive type may be converted to each other one. A reference may be
+-- converted to each primitive type if it can be a boxed number.
 abbrev pub can_explicit : List Class → Ty → Ty → Bool
 can_explicit classes (ty.Prim p) (ty.Prim q) = true
 can_explicit classes (ty.Prim p) (ty.Class t) = is_subclass classes (wrapper_of p) t
@@ -105,7 +105,7 @@ conv_as_type classes (ty.Prim p) _ v = Ok (boxed v)
 conv_as_type classes _ (ty.Prim q) v = unboxed v q
 conv_as_type classes _ t v = cast classes v t
 
--- so many low bits of a whole number, as a number without a sign
+-- the low bits, this many, of a whole number, as a number without a sign
 abbrev pub low_bits : ℕ → ℤ → ℕ
 low_bits bits z = unsigned_abs (int_rem_euclid z (pos (2 ^ bits)))
 
@@ -150,16 +150,16 @@ abbrev pub fit : List Class → Value → Ty → Result Value Exc
 fit classes v (ty.Prim q) = unboxed v q
 fit classes v t = cast classes v t
 
--- the conversion from one type to another, where it is allowed
+-- the conversion from one type to another, if it is allowed
 abbrev pub conversion_of : Rules → List Class → Ty → Ty → Option Conv
 conversion_of by classes s t = if can by classes s t then Some (record { from = s; to = t }) else None
 
--- the conversion of a result, where it is allowed
+-- the conversion of a result, if it is allowed
 abbrev pub value_conversion : Option Conv → Option RetConv
 value_conversion (Some c) = Some (ret.Value c)
 value_conversion None = None
 
--- the conversion from one return type to another, where it is allowed; void may become any type, and any type void
+-- the conversion from one return type to another, if it is allowed; void may become any type, and any type void
 abbrev pub ret_conversion_of : Rules → List Class → Option Ty → Option Ty → Option RetConv
 ret_conversion_of by classes None None = Some ret.Keep
 ret_conversion_of by classes (Some s) None = Some ret.Discard

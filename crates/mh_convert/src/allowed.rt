@@ -28,8 +28,8 @@ fn widens(from: Primitive, to: Primitive) -> bool
     }
 }
 
-/// Whether a number of the first primitive type serves as one of the second: the types are one, or
-/// the first widens to the second.
+/// Whether a number of the first primitive type serves as one of the second: the types are equal,
+/// or the first widens to the second.
 pub(crate) fn serves_as(from: Primitive, to: Primitive) -> bool
     ensures { result ≡ serves_as from to }
 {
@@ -88,9 +88,9 @@ impl Rules {
         }
     }
 
-    /// The conversion of an argument from one type to another, where the rules allow it: the types
-    /// are equal, both are references, a primitive type is boxed, and as the rules say from a
-    /// primitive type or a reference to a primitive type.
+    /// The conversion of an argument from one type to another, if the rules allow it. They allow it
+    /// if the types are equal, if both are references, or if a primitive type is boxed. Whether a
+    /// primitive type or a reference converts to a primitive type, each of the rules says itself.
     pub fn conversion(self, from: Ty, to: Ty, classes: &Classes) -> Option<Conv>
         ensures found { result ≡ conversion_of self classes.now from to }
         ensures allowed { IfSome result (λ c. IsTrue (can self classes.now c.from c.to)) }
@@ -102,7 +102,7 @@ impl Rules {
         }
     }
 
-    /// The conversion of what a method returns, where the rules allow it: as of an argument, and
+    /// The conversion of what a method returns, if the rules allow it: as of an argument, and
     /// any type may become void, and void any type.
     pub fn ret_conversion(
         self,
@@ -121,9 +121,9 @@ impl Rules {
     }
 }
 
-/// The conversion of an argument from one type to another, where it is allowed: the types are
-/// equal, both are references, a primitive type widens or is boxed, or a reference may hold a boxed
-/// number that serves (`MethodHandle.asType`, SE 17).
+/// The conversion of an argument from one type to another, if it is allowed. It is allowed if the
+/// types are equal, if both are references, if a primitive type widens or is boxed, or if a
+/// reference may hold a boxed number that fits (`MethodHandle.asType`, SE 17).
 pub fn conversion(from: Ty, to: Ty, classes: &Classes) -> Option<Conv>
     ensures found { result ≡ conversion_of rules.AsType classes.now from to }
     ensures allowed { IfSome result (λ c. IsTrue (can rules.AsType classes.now c.from c.to)) }
@@ -131,7 +131,7 @@ pub fn conversion(from: Ty, to: Ty, classes: &Classes) -> Option<Conv>
     Rules::AsType.conversion(from, to, classes)
 }
 
-/// The conversion of what a method returns, where it is allowed: as of an argument, and any type
+/// The conversion of what a method returns, if it is allowed: as of an argument, and any type
 /// may become void, and void any type (`MethodHandle.asType`, SE 17).
 pub fn ret_conversion(from: Option<Ty>, to: Option<Ty>, classes: &Classes) -> Option<RetConv>
     ensures { result ≡ ret_conversion_of rules.AsType classes.now from to }

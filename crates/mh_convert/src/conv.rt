@@ -21,7 +21,7 @@ pub struct Conv {
 pub enum RetConv {
     /// Both types are void.
     Keep,
-    /// The result is dropped, since void is wanted.
+    /// The result is dropped, since void is asked for.
     Discard,
     /// Void gives the default of the type: null, false or zero.
     Default(Ty),

@@ -92,8 +92,8 @@ fn convert_explicitly(by: Conv, v: Value, classes: &Classes) -> Result<Value, Ex
 }
 
 impl Rules {
-    /// What an allowed conversion gives of a value of its `from`, or its exception, with an empty
-    /// message, where a reference is not what is wanted. It takes no memory.
+    /// What an allowed conversion gives of a value of its `from`. If a reference cannot be
+    /// converted, it gives an exception with an empty message. It takes no memory.
     pub fn convert(self, by: Conv, v: Value, classes: &Classes) -> Result<Value, Exc>
         requires allowed { IsTrue (can self classes.now by.from by.to) }
         requires typed { IsTrue (has_type classes.now v by.from) }
@@ -107,8 +107,8 @@ impl Rules {
 }
 
 /// What an allowed conversion gives of a value of its `from`: the value itself, widened, boxed or
-/// unboxed, or `NullPointerException` or `ClassCastException`, with an empty message, where a
-/// reference is not what is wanted (`MethodHandle.asType`, SE 17). It takes no memory.
+/// unboxed. If a reference cannot be converted, it gives `NullPointerException` or
+/// `ClassCastException`, with an empty message (`MethodHandle.asType`, SE 17). It takes no memory.
 pub fn convert(by: Conv, v: Value, classes: &Classes) -> Result<Value, Exc>
     requires allowed { IsTrue (can rules.AsType classes.now by.from by.to) }
     requires typed { IsTrue (has_type classes.now v by.from) }

@@ -5,7 +5,8 @@ ghost use Rattle.mh_convert.specs.Conversion.{fit, unboxed, cast};
 use crate::allowed::serves_as;
 use mh_values::{ClassId, Classes, Exc, Primitive, Ty, Value, has_type};
 
-/// The exception of a reference that is no boxed number which serves as the primitive type.
+/// The exception of a reference that is no boxed number of a type that serves as the primitive
+/// type.
 fn unboxing_error(v: &Value, to: Primitive) -> Option<Exc>
     ensures { result ≡ result_err (unboxed v.now to) }
 {
@@ -16,7 +17,7 @@ fn unboxing_error(v: &Value, to: Primitive) -> Option<Exc>
     }
 }
 
-/// The exception of a reference that has not the type.
+/// The exception of a reference that does not have the type.
 fn cast_error(v: &Value, to: Ty, classes: &Classes) -> Option<Exc>
     ensures { result ≡ result_err (cast classes.now v.now to) }
 {

@@ -1,4 +1,4 @@
-//! The program `mh_draw`: it writes the forms of call sites as a drawing in the language DOT of
+//! The program `mh_draw`. It writes the forms of call sites as a drawing in the language DOT of
 //! Graphviz, or says why two call sites share a form or do not.
 #![tactic(auto)]
 
@@ -9,7 +9,7 @@ use mh_outside::{all_words, real_inputs, real_sink, texts_of};
 use std::process::ExitCode;
 use std::{env, io};
 
-// All the words, in order. Words that are no text are refused as no words are.
+// All the words, in order. Words that are no text are refused, as an empty list of words is.
 fn words_of(rt: &HostRuntime) -> Result<Vec<String>, NoMemory> {
     match env::args(rt) {
         Ok(args) => all_words(rt.alloc(), args),

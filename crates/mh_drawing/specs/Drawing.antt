@@ -1,5 +1,5 @@
--- The drawing of forms and of the call sites that have them: a node for each form, with an edge from the form that it was made of, and a box for each call
--- site, with an edge to the form of its target and to those of its side parts.
+-- The drawing of forms and of the call sites that have them. Each form is a node, with an edge from the form that it was made of. Each call site is a box, with
+-- an edge to the form of its target and to those of its side parts.
 use Rattle.std.specs.Prelude.{ℕ, ◌-◌, ◌==◌, nat_le, Bool, true, false, if◌then◌else◌, List, [], ◌∷◌, ◌++◌, codes, flat_map, length, slice_get, Option, None, Some}
 use Rattle.std.specs.Fmt.{decimal}
 use Rattle.std.specs.List.{count_by, find}
@@ -66,7 +66,7 @@ is_then recipe origin (Some key) = same_recipe recipe (origin ++ key ∷ [])
 abbrev pub is_made_of : List Key → List Key → Bool
 is_made_of recipe origin = is_then recipe origin (last_key recipe)
 
--- the form of which the form of a recipe was made, if it is among these; a root is made of nothing
+-- the form that the form of a recipe was made from, if it is among these; a root is made from nothing
 abbrev pub origin_of : List FormView → List Key → Option FormView
 origin_of forms recipe = find (λ origin. is_made_of recipe origin.recipe) forms
 

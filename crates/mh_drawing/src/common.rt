@@ -12,7 +12,7 @@ use mh_edit::Key;
 use mh_shown::{push_key, push_number};
 use std::alloc::Global;
 
-// Whether two keys have one text. Two different keys have two.
+// Whether two keys have the same text. Different keys have different texts.
 fn is_one_key(alloc: Global, one: &Key, other: &Key) -> Result<bool, NoMemory>
     ensures { IfOk result (λ is. is ≡ bytes_eq (key_text one.now) (key_text other.now)) }
 {

@@ -84,7 +84,7 @@ fn push_form_label(alloc: Global, text: &mut Vec<u8>, form: &Form) -> Result<(),
     push_gives(alloc, text, body.out)
 }
 
-// Whether a number stands among these at least twice.
+// Whether a number is among these at least twice.
 fn is_shared(targets: &[u32], number: u32) -> bool
     ensures { result ≡ is_shared targets.now number }
 {
@@ -120,7 +120,7 @@ fn push_form_line(
     Ok(())
 }
 
-// Whether a recipe is another one and a last key.
+// Whether a recipe is another one with one more key.
 fn is_made_of(recipe: &Recipe, origin: &Recipe) -> bool
     ensures { result ≡ is_made_of recipe.now origin.now }
 {
@@ -130,7 +130,7 @@ fn is_made_of(recipe: &Recipe, origin: &Recipe) -> bool
     }
 }
 
-// The form of which the form of a recipe was made, if it is among these.
+// The form that the form of a recipe was made from, if it is among these.
 fn origin_of<'f, 't>(forms: &'f [ShownForm<'t>], recipe: &Recipe) -> Option<&'f ShownForm<'t>>
     ensures { option_copied result ≡ origin_of forms.now recipe.now }
 {

@@ -9,7 +9,7 @@ use mh_classfile::{ClassView, SiteView};
 use mh_texts::{show_name, show_text};
 use std::alloc::Global;
 
-/// Where a call site stands, in texts as they are printed: the class file, the method that has it
+/// The place of a call site, in texts as they are printed: the class file, the method that has it
 /// with its descriptor, and the site's name and type.
 #[derive(Drop)]
 pub struct Place {

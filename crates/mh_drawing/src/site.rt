@@ -1,7 +1,7 @@
 use crate::place::Place;
 use mh_attempt::Linked;
 
-/// A call site as it is drawn: its number in the run, where it stands, and how it is linked.
+/// A call site as it is drawn: its number in the run, its place, and how it is linked.
 #[derive(Clone, Copy)]
 pub struct Site<'l, 't> {
     pub number: u32,

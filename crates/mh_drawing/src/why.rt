@@ -73,7 +73,7 @@ fn push_pair(
     push_field_line(text, number, &text_of_one, &text_of_other)
 }
 
-// The next number, which is one of 32 bits.
+// The next number, if it fits into 32 bits.
 fn next(number: u32) -> Result<u32, NoMemory>
     ensures { IfOk result (λ next. next ≡ number + 1) }
 {

@@ -1,5 +1,5 @@
 -- Call sites that are linked one after the other.
-use Rattle.std.proofs.Common.{◌≡◌, refl, sym, ◌∙◌, ap, ap₂, subst, ℕ, ◌+◌, ◌^◌, ◌<◌, ◌≤◌, ◌⊎◌, inl, inr, List, [], ◌∷◌, ◌++◌, length, length-append, Some, slice_get, arith}
+use Rattle.std.proofs.Common.{◌≡◌, refl, sym, ◌∙◌, ap, subst, ℕ, ◌+◌, ◌^◌, ◌⊎◌, inl, inr, List, [], ◌∷◌, ◌++◌, length, length-append, Some, slice_get, arith}
 use Rattle.std.specs.List.{IsDistinct}
 use Rattle.mh_base.proofs.Slices.{slice_get-push}
 use Rattle.mh_intern.specs.Views.{SeatView as TypesSeat, TypesId, new_seat}

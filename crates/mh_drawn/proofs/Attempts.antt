@@ -1,6 +1,5 @@
 -- What an attempt at one more call site leaves of the tables.
-use Rattle.std.proofs.Common.{◌≡◌, sym, ◌∙◌, ap, subst, ℕ, suc, ◌+◌, ◌*◌, ◌^◌, ◌≤◌, List, [], ◌++◌, length, Result, Ok, Err, IfErr, OnOk, arith}
-use Rattle.mh_values.specs.declared.types.MethodTy.{MethodTy}
+use Rattle.std.proofs.Common.{◌≡◌, sym, ◌∙◌, ap, subst, ℕ, suc, ◌+◌, ◌^◌, ◌≤◌, ◌++◌, length, Result, Ok, Err, IfErr, OnOk, arith}
 use Rattle.mh_intern.specs.Held.{times_type}
 use Rattle.mh_intern.proofs.Measures.{times_type-append}
 use Rattle.mh_handle.specs.declared.work.Work.{Work}

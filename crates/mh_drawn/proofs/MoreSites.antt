@@ -1,5 +1,5 @@
 -- Class files that are read one after the other.
-use Rattle.std.proofs.Common.{◌≡◌, ◌≤◌, ◌∙◌, ap, subst, ℕ, ◌+◌, ◌-◌, List, ◌++◌, length, length-append, arith, Result, Ok}
+use Rattle.std.proofs.Common.{◌≡◌, ◌≤◌, ◌∙◌, ap, subst, ℕ, ◌+◌, ◌-◌, List, ◌++◌, length, length-append, arith, Ok}
 use Rattle.std.proofs.lemmas.List.{length-map}
 use Rattle.mh_outside.specs.Contents.{Contents, unknown, absent, file, IsWhole}
 use Rattle.mh_leaf.specs.LeafTable.{LeafTable}

@@ -1,5 +1,5 @@
 -- Words after others.
-use Rattle.std.proofs.Common.{◌≡◌, ℕ, List, ◌++◌, map}
+use Rattle.std.proofs.Common.{◌≡◌, ℕ, List, ◌++◌}
 use Rattle.std.proofs.lemmas.List.{map-append}
 use denote.Ref.{Bor}
 use Rattle.mh_words.specs.Options.{said}

@@ -1,5 +1,5 @@
 -- What stops the reading of a file stops that of what is in it.
-use Rattle.std.proofs.Common.{◌≡◌, ◌≤◌, subst, ℕ, List, length, Result}
+use Rattle.std.proofs.Common.{◌≤◌, subst, ℕ, List, length, Result}
 use Rattle.mh_base.specs.declared.lines.LineFault.{LineFault}
 use Rattle.mh_outside.specs.Contents.{Contents, unknown, absent, file, IsWhole}
 use Rattle.mh_drawn.specs.declared.stop.Stop.{Stop}

@@ -3,6 +3,7 @@ use Rattle.std.specs.Prelude.{◌≡◌, ◌⊎◌, ◌≤◌, ℕ, List, [], le
 use Rattle.std.specs.Io.KnownBytes.{Appends}
 use Rattle.mh_values.specs.declared.class.Class.{Class}
 use Rattle.mh_outside.specs.Contents.{Contents}
+use Rattle.mh_outside.specs.Causes.{AppendsPart}
 use Rattle.mh_jobs.specs.Given as jobs
 use Rattle.mh_handle.specs.Form.{FormView}
 use Rattle.mh_handle.specs.Passes.{PassView}
@@ -23,7 +24,7 @@ use Rattle.mh_drawn.specs.Words.{Asked, drawing, why, request_of}
 
 -- ---- texts
 
--- why two call sites share a form or do not, where both are there
+-- why two call sites share a form or do not, if both are there
 abbrev pub why_at_text : List Class → List FormView → Option Site → Option Site → List ℕ
 why_at_text classes forms (Some one) (Some other) = why_text classes forms one other
 why_at_text classes forms _ _ = []
@@ -60,13 +61,13 @@ abbrev pub IsAsked : ℕ → Asked → Type 0
 IsAsked number drawing = ⊥
 IsAsked number (why one other) = (number ≡ one) ⊎ (number ≡ other)
 
--- no memory is left, or a call site that is asked for is not there, of so many
+-- no memory is left, or a call site that is asked for is not there among this many
 abbrev pub LacksSite : ℕ → Asked → Stop → Type 0
 LacksSite sites asked NoMemory = Unit {0}
 LacksSite sites asked (NoSite number count) = IsAsked number asked × (count ≡ sites) × (sites ≤ number)
 LacksSite sites asked _ = ⊥
 
--- this stops what is asked for, of call sites that were read: no memory, no number of a form or no slot for a type is left, or a call site is not there
+-- This stops what is asked for of call sites that were read. No memory, no number for a form or no slot for a type is left, or a call site is not there.
 abbrev pub StopsShowing : jobs.Given → Asked → Stop → Type 0
 StopsShowing given asked FormsFull = NeedsManyForms given
 StopsShowing given asked TypesFull = NeedsManyTypes given
@@ -103,6 +104,14 @@ IsAnswerTo words files before now status text =
     ((request_of words ≡ None) × SaysUsage status text)
     ⊎ ((asked : Asked) × (names : Named) × (request_of words ≡ Some (asked, names)) × AnswersRequest asked names files before now status text)
 
--- bytes of which this holds were added
+-- bytes with this property were added
 abbrev pub Writes : (List ℕ → Type 0) → Option (List ℕ) → Option (List ℕ) → Type 0
 Writes Is old new = (bytes : List ℕ) × Is bytes × Appends old new bytes
+
+-- what is due at one of the statuses
+abbrev pub IsDue : List (List ℕ) → (List ℕ → Contents) → (List ℕ → ℕ) → (List ℕ → ℕ) → List ℕ → Type 0
+IsDue words files before now bytes = (status : ℕ) × IsAnswerTo words files before now status bytes
+
+-- a front part of bytes of which this holds was added
+abbrev pub WritesPart : (List ℕ → Type 0) → Option (List ℕ) → Option (List ℕ) → Type 0
+WritesPart Is old new = (bytes : List ℕ) × Is bytes × AppendsPart old new bytes

@@ -1,4 +1,4 @@
--- What is written where nothing is shown, and the status that it comes with.
+-- What is written if nothing is shown, and the status that it comes with.
 use Rattle.std.specs.Prelude.{ℕ, List, [], ◌++◌, codes}
 use Rattle.std.specs.Fmt.{decimal}
 use Rattle.mh_class_pool.specs.declared.fault.ClassKind.{ClassKind}
@@ -27,7 +27,7 @@ class_word kind.TooManySites = codes "TooManySites"
 class_word kind.BadDescriptor = codes "BadDescriptor"
 class_word kind.TooManyConstants = codes "TooManyConstants"
 
--- a line that refuses an input, at a place that this word and this number tell, for a fault of this name
+-- a line that refuses an input for a fault of this name, at the place that this word and this number give
 abbrev pub fault_line : List ℕ → List ℕ → ℕ → List ℕ → List ℕ
 fault_line name word at fault = codes "refused " ++ name ++ word ++ decimal at ++ codes " " ++ fault ++ codes "\n"
 

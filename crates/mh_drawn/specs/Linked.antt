@@ -44,7 +44,7 @@ AreAnswered given places sites =
 
 -- ---- what attempts ask for
 
--- the recipes that the attempts at the first call sites make, so many of them
+-- the recipes that the attempts at the first call sites make, at this many of them
 abbrev pub edits_to : Given → ℕ → List (List Key)
 edits_to given zero = []
 edits_to given (suc site) = edits_to given site ++ edits_at (recipe given.leaves) given site (serial_of site)
@@ -74,13 +74,13 @@ NeedsManyTypes given = (count : ℕ) × (count ≤ length given.jobs) × FillBuc
 abbrev pub WasAsked : List MethodTy → SeatView → Type 0
 WasAsked types seat = (t : MethodTy) → times_type t types ≡ 0 → times_type t seat.asked ≡ 0
 
--- after attempts at so many call sites: what is left of the room for the numbers of forms and for types, and what was asked for
+-- after attempts at this many call sites: what room is left for numbers of forms and for types, and what was asked for
 pub record HasRoomAfter (count : ℕ) (pass : PassView) (seat : SeatView) : Type 0 where
   pub numbers : 2 ^ 62 ≤ pass.seat.room + attempt_draws * count
   pub holds : 2 ^ 62 ≤ seat.room + most_held * (attempt_draws * count)
   pub whole : seat.room + length seat.holds ≡ 2 ^ 62
 
--- the same, where all of these attempts were made to their end
+-- the same, if all of these attempts were made to their end
 pub record HasLinked (given : Given) (count : ℕ) (pass : PassView) (seat : SeatView) : Type 0 where
   pub room : HasRoomAfter count pass seat
   pub asked : HasAsked (edits_to given count) pass
@@ -116,7 +116,7 @@ pub record StaysLent (old new : Work) : Type 0 where
 abbrev pub IsLinkageOf : ℕ → LinkageView → Type 0
 IsLinkageOf number linkage = (linkage.job.site ≡ number) × (linkage.serial ≡ serial_of number)
 
--- there are so many linkages, each of the call site of its number
+-- there are this many linkages, each of the call site with its number
 abbrev pub AreLinkages : ℕ → List LinkageView → Type 0
 AreLinkages count linkages =
     (length linkages ≡ count) × ((number : ℕ) (linkage : LinkageView) → slice_get linkages number ≡ Some linkage → IsLinkageOf number linkage)

@@ -37,7 +37,7 @@ most_sites = 4096
 
 -- ---- what files mean
 
--- if contracts see the file, it has at most so many bytes, and they have this meaning
+-- if contracts see the file, it has at most this many bytes, and they have this meaning
 abbrev pub HasMeaning : {T K : Type 0} → ℕ → (List ℕ → Result T K) → Contents → T → Type 0
 HasMeaning limit meaning (file bytes) value = (meaning bytes ≡ Ok value) × (length bytes ≤ limit)
 HasMeaning limit meaning unknown value = Unit {0}
@@ -80,8 +80,8 @@ AreSites leaves scripts sites =
 
 -- ---- what stops the reading
 
--- This stops the reading of a file of a name, of at most so many bytes: no memory is left, a read of it failed, so that the count of its faults rose, or it is
--- longer.
+-- This stops the reading of a file of this name and of at most this many bytes: no memory is left, a read of it failed so that the count of its faults rose, or
+-- it is longer.
 abbrev pub StopsFile : List ℕ → ℕ → Contents → ℕ → ℕ → Stop → Type 0
 StopsFile name limit contents before now NoMemory = Unit {0}
 StopsFile name limit contents before now (ReadFault at) = (at.now ≡ name) × Rose before now
@@ -103,7 +103,7 @@ StopsText name word meaning contents before now (TooLong at) = (at.now ≡ name)
 StopsText name word meaning contents before now (Fault at line kind) = (at.now ≡ name) × HasLineFault word meaning contents line kind.now
 StopsText name word meaning contents before now _ = ⊥
 
--- the bytes of a class file that may have so many call sites have a fault of this name at this place
+-- the bytes of a class file that may have this many call sites have a fault of this name at this place
 abbrev pub IsClassFault : ℕ → List ℕ → ℕ → List ℕ → Type 0
 IsClassFault room bytes place kind =
     (fault : Fault' ClassKind) × (class_or_fault room bytes ≡ Err fault) × (place ≡ fault.at) × (kind ≡ class_word fault.kind)
@@ -120,7 +120,7 @@ HasClassFault room (file bytes) place kind = (length bytes ≤ class_limit) × I
 HasClassFault room unknown place kind = Unit {0}
 HasClassFault room absent place kind = ⊥
 
--- this stops the reading of the class file of a name, which may have so many call sites: it cannot be read or is too long, or it has a fault
+-- This stops the reading of the class file of this name, which may have this many call sites. It cannot be read, is too long, or has a fault.
 abbrev pub StopsClass : List ℕ → ℕ → Contents → ℕ → ℕ → Stop → Type 0
 StopsClass name room contents before now NoMemory = Unit {0}
 StopsClass name room contents before now (ReadFault at) = (at.now ≡ name) × Rose before now

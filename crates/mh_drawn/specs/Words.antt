@@ -75,7 +75,7 @@ abbrev pub both : Option Asked → Option Named → Option (Asked × Named)
 both (Some asked) (Some names) = Some (asked, names)
 both _ _ = None
 
--- what the words ask for, or nothing where they are refused
+-- what the words ask for, or nothing if they are refused
 abbrev pub request_of : List (List ℕ) → Option (Asked × Named)
 request_of words = both (asked_of words) (names_of (other_words words))
 

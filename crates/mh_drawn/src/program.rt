@@ -1,10 +1,12 @@
 //! The program, over any words, inputs and sink.
 
 ghost use Rattle.std.specs.Prelude.{◌≡◌, ◌≢◌, ◌++◌, IfOk, IfErr, OnOk};
+ghost use Rattle.std.specs.Io.KnownBytes.{Keeps};
 ghost use Rattle.mh_words.specs.Options.{said};
 ghost use Rattle.mh_words.specs.Words.{held_names};
 ghost use Rattle.mh_outside.specs.Causes.{Rose};
-ghost use Rattle.mh_drawn.specs.Answer.{AnswersRequest, IsAnswerTo, SaysStop, SaysUsage, ShowsRead, StopsRequest, Writes};
+ghost use Rattle.mh_drawn.specs.Answer.{AnswersRequest, IsAnswerTo, IsDue, SaysStop, SaysUsage, ShowsRead, StopsRequest};
+ghost use Rattle.mh_drawn.specs.Answer.{Writes, WritesPart};
 ghost use Rattle.mh_drawn.specs.Lines.{fault_line, named_line, no_site_line, stop_line, stop_status};
 ghost use Rattle.mh_drawn.specs.Status.{no_memory, write_failed};
 ghost use Rattle.mh_drawn.specs.Words.{held_asked};
@@ -193,7 +195,7 @@ fn answer_words<R: Wait, I: Inputs>(
 
 /// The program: it reads what the words name, links all call sites in one thread, and writes their
 /// drawing, or why two of them share a form or do not. It gives the exit status. If no memory is
-/// left, nothing is written.
+/// left, nothing is written; if a write fails, a front part of what was due may stand there.
 pub fn draw<R: Wait, I: Inputs, S: Sink>(
     rt: &R,
     alloc: Global,
@@ -204,6 +206,10 @@ pub fn draw<R: Wait, I: Inputs, S: Sink>(
     ensures answers { result ≢ no_memory → result ≢ write_failed
         → Writes (IsAnswerTo (said words.now) (I.contents inputs.old)
         (I.faults inputs.old) (I.faults inputs.new) result)
+        (S.taken sink.old) (S.taken sink.new) }
+    ensures nothing { result ≡ no_memory → Keeps (S.taken sink.old) (S.taken sink.new) }
+    ensures broken { result ≡ write_failed → WritesPart (IsDue (said words.now)
+        (I.contents inputs.old) (I.faults inputs.old) (I.faults inputs.new))
         (S.taken sink.old) (S.taken sink.new) }
     ensures failed { result ≡ write_failed → Rose (S.faults sink.old) (S.faults sink.new) }
 {

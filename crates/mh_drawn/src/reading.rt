@@ -28,7 +28,7 @@ use mh_script::{ScriptError, Scripts};
 use mh_words::Names;
 use std::alloc::Global;
 
-/// How many bytes a manifest may have, and likewise the scripts.
+/// How many bytes a manifest may have, and how many the scripts.
 const TEXT_LIMIT: usize = 262_144;
 
 /// How many bytes a class file may have.
@@ -37,7 +37,7 @@ const CLASS_LIMIT: usize = 1_048_576;
 /// How many call sites there may be.
 const MOST_SITES: u32 = 4096;
 
-/// The call sites of class files: their jobs, and where they stand.
+/// The call sites of class files: their jobs, and their places.
 #[derive(Drop)]
 pub struct Sites {
     pub jobs: RunJobs,

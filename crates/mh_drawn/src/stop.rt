@@ -10,15 +10,15 @@ pub enum Stop<'a> {
     ReadFault(&'a str),
     /// The named input is over its limit.
     TooLong(&'a str),
-    /// A line of the named input, by its number, has a fault of the kind that is printed so.
+    /// A line of the named input, by its number, has a fault of the kind that this text names.
     Fault(&'a str, u32, &'a str),
-    /// The named class file has a fault at a place, of the kind that is printed so.
+    /// The named class file has a fault at a place, of the kind that this text names.
     Place(&'a str, usize, &'a str),
     /// No number is left for a form.
     FormsFull,
     /// No slot is left for a type.
     TypesFull,
-    /// There is no call site of this number; there are so many.
+    /// There is no call site of this number; there are this many.
     NoSite(u32, u32),
 }
 

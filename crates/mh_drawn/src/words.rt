@@ -153,7 +153,7 @@ fn with_plan<'a>(alloc: Global, words: &[&'a str]) -> Result<Vec<&'a str>, NoMem
     with_two(alloc, "--plan", "-", words)
 }
 
-/// The words of a run, of which the mode and the plan may be left out, with what is left out.
+/// The words of a run, in which the mode and the plan may be left out, with these put in.
 pub(crate) fn completed<'a>(alloc: Global, words: Vec<&'a str>) -> Result<Vec<&'a str>, NoMemory>
     ensures { IfOk result (λ all. said all.items ≡ completed (said words.entry.items)) }
 {

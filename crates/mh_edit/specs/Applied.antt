@@ -34,7 +34,7 @@ conv_names (None ∷ entries) (c ∷ params) f i = conv_names entries params f (
 conv_names (Some b ∷ entries) (c ∷ params) f i = conv_name b c f i ∷ conv_names entries params (f + 1) (i + 1)
 conv_names _ _ f i = []
 
--- where the old parameters stand: at their own place, or at the slot of their conversion
+-- the places of the old parameters: their own, or that of the slot of their conversion
 abbrev pub conv_table : List (Option Basic) → ℕ → ℕ → List ℕ
 conv_table [] i made = []
 conv_table (None ∷ entries) i made = i ∷ conv_table entries (i + 1) made

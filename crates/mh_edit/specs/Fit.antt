@@ -10,7 +10,7 @@ use Rattle.mh_form.specs.declared.body.FormBody.{FormBody}
 use Rattle.mh_edit.specs.declared.key.Key.{Key}
 use Rattle.mh_edit.specs.declared.key.Key.TheVariants as key
 
--- whether two basic types are one
+-- whether two basic types are equal
 abbrev pub is_same_basic : Basic → Basic → Bool
 is_same_basic basic.L basic.L = true
 is_same_basic basic.I basic.I = true

@@ -118,7 +118,7 @@ CatchRootLaw params ret kept new =
     (λ e k. run_bound table h.value (slot.L (value.Thrown e) ∷ take kept args) k)))
     (run_on table new (field.Part t ∷ field.Class c ∷ field.Part h ∷ []) args n)
 
--- The new body runs a part on all arguments, and then in any case its cleanup: on null and the result, or on the exception and the default, and on
+-- The new body runs a part on all arguments, and then in any case its cleanup. The cleanup gets null and the result, or the exception and the default, and then
 -- the first arguments.
 abbrev pub TryRootLaw : List Basic → BasicRet → ℕ → FormBody → Type 0
 TryRootLaw params ret kept new =
@@ -143,7 +143,7 @@ SwitchRootLaw params ret count new =
     (found (slice_get args 0) (λ s. found (case_of f cases s) (λ part. returned ret (run_bound table part.value args n))))
     (run_on table new (field.Part f ∷ map field.Part cases) args n)
 
--- the new body runs the parts of a loop, each on so many of the first arguments
+-- the new body runs the parts of a loop, each on this many of the first arguments
 abbrev pub LoopRootLaw : List Basic → BasicRet → LoopCounts → FormBody → Type 0
 LoopRootLaw params ret counts new =
     (table : LeafTable) (i s b : Arc Bound Global) (args : List Slot) (n : ℕ) →

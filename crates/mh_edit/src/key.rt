@@ -60,7 +60,7 @@ pub enum Key {
         count: u8,
     },
     /// A counted loop. Fields: the parts that give its end and its start, and its body. Each takes
-    /// so many of the first arguments.
+    /// this many of the first arguments.
     LoopRoot {
         shape: Shape,
         iterations: u8,

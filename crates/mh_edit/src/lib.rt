@@ -1,4 +1,4 @@
-//! Edits of forms: sixteen kinds of key, the body that each makes of another, and its law.
+//! Edits of forms: nineteen kinds of key, the body that each makes of another, and its law.
 #![tactic(auto)]
 
 mod copy;

@@ -107,7 +107,7 @@ pub(crate) fn push_convs(
     }
 }
 
-/// Where the old parameters stand: at their own place, or at the slot of their conversion.
+/// The places of the old parameters: their own, or that of the slot of their conversion.
 pub(crate) fn push_conv_places(
     places: &mut Operands,
     entries: &[Option<Basic>],

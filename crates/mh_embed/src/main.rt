@@ -1,5 +1,5 @@
-//! A first use of the library in a runtime of one's own: it reads leaves, scripts and a class file,
-//! and calls a call site of the class from two threads, which share a linker.
+//! A first use of the library in your own runtime. It reads leaves, scripts and a class file, and
+//! calls a call site of the class from two threads, which share a linker.
 #![tactic(auto)]
 
 ghost use Rattle.std.specs.Prelude.{◌≡◌, ◌≤◌, length};
@@ -28,8 +28,8 @@ use std::process::ExitCode;
 use std::sync::Wait;
 use std::thread::{Threads, join_mut};
 
-/// What stops the program: a file that is not there or that is refused, a call that cannot be made,
-/// or want of memory, of forms or of types. A runtime would keep which.
+/// What stops the program: a file that does not exist or is refused, a call that cannot be made, or
+/// lack of memory, forms or types. A runtime would keep the reason.
 #[derive(Clone, Copy, Debug)]
 struct Stopped;
 

@@ -19,11 +19,11 @@ use Rattle.mh_leaf.specs.declared.leaf.Kind.{Kind}
 use Rattle.mh_leaf.specs.declared.leaf.Kind.TheVariants as kind
 use Rattle.mh_leaf.specs.declared.leaf.Leaf.{Leaf}
 use Rattle.mh_leaf.specs.LeafTable.{LeafTable}
-use Rattle.mh_leaf.specs.Outcome.{boolean, int, is_same_int, kind_on, lacks_receiver, leaf_mean, leaf_outcome, leaf_run, long, one_boolean, ran_of, ran_of_some, returned, two_ints, two_longs}
+use Rattle.mh_leaf.specs.Outcome.{boolean, int, characters_of, is_same_int, joined, kind_on, lacks_receiver, leaf_mean, leaf_outcome, leaf_run, long, measured, one_boolean, ran_of, ran_of_some, returned, two_ints, two_longs}
 use Rattle.mh_form.specs.declared.slot.Slot.{Slot}
 use Rattle.mh_form.specs.declared.slot.Slot.TheVariants as slot
 use Rattle.mh_form.specs.Erasure.{all_typed, erased, erased_ran, typed_at, typed_slot, value_and_more}
-use Rattle.mh_form.specs.OnSlots.{both_ints, both_longs, first_at, ints_at, longs_at, on_slots, only_at, picked_at, truth}
+use Rattle.mh_form.specs.OnSlots.{both_ints, both_longs, both_references, first_at, ints_at, longs_at, on_slots, only_at, picked_at, reference, references_at, returned_slot, truth}
 use Rattle.mh_form.specs.Run.{picked, picked_more}
 use Rattle.mh_form.specs.Slots.{called, called_at, filled, holds_one}
 use Rattle.mh_form.proofs.CalledAt.{called_at-picked, typed_at-picked}
@@ -122,6 +122,57 @@ value-gives : (v : Value) (o : Outcome) (s : Slot) (calls : List LeafCall) (give
 value-gives v o s calls given told at is =
     fills-both (returned v) o (erased v) s calls refl (some_is (returned v) o told) (some_is (erased v) s (sym at ∙ is))
 
+-- the slot of the value that was returned is given
+outcome-fills : (o : Outcome) (s : Slot) (calls : List LeafCall) → returned_slot o ≡ Some s → fills o s calls
+outcome-fills (Return (Some v)) s calls is = fills-both (returned v) (returned v) (erased v) s calls refl refl (some_is (erased v) s is)
+outcome-fills o s calls is = absurd cc
+
+-- ---- references
+
+erased-reference : (v w : Value) → erased v ≡ slot.L w → v ≡ w
+erased-reference (value.Prim (num.Z b)) w is = absurd cc
+erased-reference (value.Prim (num.B i)) w is = absurd cc
+erased-reference (value.Prim (num.C c)) w is = absurd cc
+erased-reference (value.Prim (num.S i)) w is = absurd cc
+erased-reference (value.Prim (num.I i)) w is = absurd cc
+erased-reference (value.Prim (num.J i)) w is = absurd cc
+erased-reference v w is = cc
+
+references-held : (o p : Option Slot) (q : Value × Value) → both_references o p ≡ Some q → (o ≡ Some (slot.L q.0)) × (p ≡ Some (slot.L q.1))
+references-held (Some (slot.L v)) (Some (slot.L w)) q is =
+    let e : (v, w) ≡ q = cc in (ap (λ (r : Value × Value). Some (slot.L r.0)) e, ap (λ (r : Value × Value). Some (slot.L r.1)) e)
+references-held o p q is = absurd cc
+
+reference-held : (s : Slot) (v : Value) → reference s ≡ Some v → s ≡ slot.L v
+reference-held (slot.L w) v is = cc
+reference-held s v is = absurd cc
+
+-- two texts joined, and the length of one
+joined-fills :
+    (v w : Value) (r : Option (Value × Value)) (o : Outcome) (s : Slot) (calls : List LeafCall) →
+    both_references (Some (erased v)) (Some (erased w)) ≡ r →
+    joined (characters_of v) (characters_of w) ≡ o →
+    option_and_then (λ p. returned_slot (joined (characters_of p.0) (characters_of p.1))) r ≡ Some s →
+    fills o s calls
+joined-fills v w None o s calls held meant given = absurd cc
+joined-fills v w (Some q) o s calls held meant given =
+    let are = references-held (Some (erased v)) (Some (erased w)) q held in
+    let first = erased-reference v q.0 (some_is (erased v) (slot.L q.0) are.0) in
+    let second = erased-reference w q.1 (some_is (erased w) (slot.L q.1) are.1) in
+    let same = sym (ap₂ (λ a b. joined (characters_of a) (characters_of b)) first second) ∙ meant in
+    outcome-fills o s calls (sym (ap returned_slot same) ∙ given)
+
+measured-fills :
+    (v : Value) (r : Option Value) (o : Outcome) (s : Slot) (calls : List LeafCall) →
+    reference (erased v) ≡ r →
+    measured v ≡ Some o →
+    option_and_then (λ w. option_and_then returned_slot (measured w)) r ≡ Some s →
+    fills o s calls
+measured-fills v None o s calls held meant given = absurd cc
+measured-fills v (Some w) o s calls held meant given =
+    let same = erased-reference v w (reference-held (erased v) w held) in
+    outcome-fills o s calls (sym (ap (option_and_then returned_slot) (sym (ap measured same) ∙ meant)) ∙ given)
+
 module _ (slots : List Slot) (places : List ℕ) (n : ℕ) where
   not-gives : (args : List Value) → picked slots places ≡ Some (map erased args) →
       gives (kind_on kind.Not args n) (on_slots kind.Not slots places n)
@@ -162,6 +213,24 @@ module _ (slots : List Slot) (places : List ℕ) (n : ℕ) where
       ∙ (ap (option_and_then (λ x. if holds_one x then slice_get slots at.1 else slice_get slots at.2)) at.4 ∙ at.6)) given
   pick-gives args picks o s calls told given = absurd cc
 
+  concat-gives : (args : List Value) → picked slots places ≡ Some (map erased args) →
+      gives (kind_on kind.Concat args n) (on_slots kind.Concat slots places n)
+  concat-gives (v ∷ w ∷ []) picks o s calls told given =
+      let at = two-places slots places (erased v) (erased w) picks in
+      let found = ap (references_at slots) at.2 ∙ ap₂ both_references at.3 at.4 in
+      joined-fills v w (both_references (Some (erased v)) (Some (erased w))) o s calls refl (some_is (joined (characters_of v) (characters_of w)) o told)
+      (sym (ap (option_and_then (λ p. returned_slot (joined (characters_of p.0) (characters_of p.1)))) found) ∙ given)
+  concat-gives args picks o s calls told given = absurd cc
+
+  length-gives : (args : List Value) → picked slots places ≡ Some (map erased args) →
+      gives (kind_on kind.Length args n) (on_slots kind.Length slots places n)
+  length-gives (v ∷ []) picks o s calls told given =
+      let at = one-place slots places (erased v) picks in
+      let found = ap (λ l. option_and_then reference (only_at slots l)) at.1 ∙ ap (option_and_then reference) at.2 in
+      measured-fills v (reference (erased v)) o s calls refl told
+      (sym (ap (option_and_then (λ w. option_and_then returned_slot (measured w))) found) ∙ given)
+  length-gives args picks o s calls told given = absurd cc
+
   kind-gives : (k : Kind) (args : List Value) → picked slots places ≡ Some (map erased args) → gives (kind_on k args n) (on_slots k slots places n)
   kind-gives kind.Iadd args picks o s calls told given =
       pair-gives (λ p. int (int_wrap w32 (p.0 +ℤ p.1))) (λ p. slot.I (int_wrap w32 (p.0 +ℤ p.1))) (two_ints args) (ints_at slots places)
@@ -191,8 +260,8 @@ module _ (slots : List Slot) (places : List ℕ) (n : ℕ) where
   kind-gives kind.Note args picks o s calls told given =
       fills-both (Return None) o (slot.I (pos 0)) s calls refl (some_is (Return None) o told) (some_is (slot.I (pos 0)) s given)
   kind-gives kind.Idiv args picks o s calls told given = absurd cc
-  kind-gives kind.Concat args picks o s calls told given = absurd cc
-  kind-gives kind.Length args picks o s calls told given = absurd cc
+  kind-gives kind.Concat args picks o s calls told given = concat-gives args picks o s calls told given
+  kind-gives kind.Length args picks o s calls told given = length-gives args picks o s calls told given
   kind-gives (kind.Throw class) args picks o s calls told given = absurd cc
 
 -- ---- a leaf of the table

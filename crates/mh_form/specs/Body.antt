@@ -2,6 +2,6 @@
 use Rattle.std.specs.Prelude.{[], None}
 use Rattle.mh_form.specs.declared.body.FormBody.{FormBody}
 
--- the body of which the first edit of each form is made
+-- the body that the first edit of each form begins with
 abbrev pub nothing : FormBody
 nothing = record { params = []; fields = 0; names = []; out = None }

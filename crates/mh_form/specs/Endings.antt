@@ -13,7 +13,7 @@ use Rattle.mh_form.specs.Run.{finally_field, run_field, senses_in, turn_of}
 use Rattle.mh_form.specs.Slots.{bounded_slot, default_slots, filled, given}
 use Rattle.mh_form.specs.Stack.{StackView}
 
--- what a part gave whose slot was taken, or the exception that it threw
+-- what a part gave, after its slot was taken, or the exception that it threw
 abbrev pub taken : Option Slot → StackView → Ran Slot
 taken (Some s) m = Gave s m.calls
 taken None m = Threw m.thrown m.calls
@@ -45,7 +45,7 @@ loop_on table n bound l m =
     and_then (filled (run_field (senses_in table bound) l.init (take l.counts.init m.frame) k)) k
     (λ v j. turned (turn_of (run_field (senses_in table bound) l.body) l.counts.body l.ret m.frame) 0 turns v j)))
 
--- a loop of so many turns, before its start
+-- a loop of this many turns, before its start
 abbrev pub started_on : LeafTable → ℕ → Bound → Looping → ℕ → StackView → Ran Slot
 started_on table n bound l turns m =
     and_then (filled (run_field (senses_in table bound) l.init (take l.counts.init m.frame) (raised n m.calls))) (raised n m.calls)
@@ -55,7 +55,7 @@ started_on table n bound l turns m =
 abbrev pub bounded_on : LeafTable → ℕ → Bound → Looping → Slot → StackView → Ran Slot
 bounded_on table n bound l s m = bounded_slot s (λ turns. started_on table n bound l turns m)
 
--- the turns of a loop from a number on, so many left, on the slots of the run under way
+-- the turns of a loop from a number on, if this many are left, on the slots of the run under way
 abbrev pub turns_on : LeafTable → ℕ → Bound → Looping → ℕ → ℕ → Slot → StackView → Ran Slot
 turns_on table n bound l number left s m =
     turned (turn_of (run_field (senses_in table bound) l.body) l.counts.body l.ret m.frame) number left s (raised n m.calls)

@@ -1,4 +1,4 @@
--- Erasure: what types and values become where a form no longer tells them apart, and back.
+-- Erasure: what types and values become in a form, which does not distinguish all of them, and back.
 use Rattle.std.specs.Prelude.{ℕ, Bool, true, false, List, [], ◌∷◌, map, slice_get, Option, None, Some, option_map, option_and_then, ℤ, if◌then◌else◌}
 use Rattle.std.specs.Option.{option_map_or}
 use Rattle.mh_values.specs.declared.class.Class.{Class}
@@ -80,15 +80,15 @@ whole_in primitive.S s = int_in s
 whole_in primitive.I s = int_in s
 whole_in primitive.J s = long_in s
 
--- the number of a primitive type of which a slot is the erasure: the slot lies in the range of the type
+-- the number of a primitive type that a slot stands for: the slot lies in the range of the type
 abbrev pub number_in : Primitive → Slot → Option Num
 number_in p s = option_and_then (number_as p) (whole_in p s)
 
--- a value, where it has the type
+-- a value, if it has the type
 abbrev pub where_typed : List Class → Ty → Value → Option Value
 where_typed classes t v = if has_type classes v t then Some v else None
 
--- the value of a type of which a slot is the erasure
+-- the value of a type that a slot stands for
 abbrev pub typed : List Class → Ty → Slot → Option Value
 typed classes (ty.Prim p) s = option_map value.Prim (number_in p s)
 typed classes (ty.Class c) (slot.L v) = where_typed classes (ty.Class c) v
@@ -101,23 +101,23 @@ lies_within (ty.Prim p) s = option_map_or (lies_in p) (whole_in p s) false
 lies_within (ty.Class c) s = true
 lies_within (ty.Array c) s = true
 
--- a value before values, where all are there
+-- a value before values, if all are there
 abbrev pub value_and_more : Option Value → Option (List Value) → Option (List Value)
 value_and_more (Some v) (Some vs) = Some (v ∷ vs)
 value_and_more _ _ = None
 
--- the values of these types of which the slots are the erasures, one for each
+-- the values of these types that the slots stand for, one for each
 abbrev pub all_typed : List Class → List Ty → List Slot → Option (List Value)
 all_typed classes [] [] = Some []
 all_typed classes (t ∷ ts) (s ∷ ss) = value_and_more (typed classes t s) (all_typed classes ts ss)
 all_typed classes _ _ = None
 
--- the value of a type of which a slot is the erasure, where there is a slot
+-- the value of a type that a slot stands for, if there is a slot
 abbrev pub typed_slot : List Class → Ty → Option Slot → Option Value
 typed_slot classes t None = None
 typed_slot classes t (Some s) = typed classes t s
 
--- the values of these types of which the slots at these places are the erasures, one for each
+-- the values of these types that the slots at these places stand for, one for each
 abbrev pub typed_at : List Class → List Slot → List Ty → List ℕ → Option (List Value)
 typed_at classes slots [] [] = Some []
 typed_at classes slots (t ∷ ts) (p ∷ ps) = value_and_more (typed_slot classes t (slice_get slots p)) (typed_at classes slots ts ps)

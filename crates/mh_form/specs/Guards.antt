@@ -15,7 +15,7 @@ abbrev pub guarded_on : LeafTable → ℕ → Bound → Guard → StackView → 
 guarded_on table n bound g m =
     guarded_field (senses_in table bound) g.part (is_caught table.classes g.class) g.handler g.kept m.frame (raised n m.calls)
 
--- what the handler gives of the exception that was thrown last, on that and the first slots of the run under way; an exception of another class goes on
+-- What the handler gives on the exception that was thrown last and the first slots of the run under way. An exception of another class goes on.
 abbrev pub caught_on : LeafTable → ℕ → Bound → Guard → StackView → Ran (Option Slot)
 caught_on table n bound g m =
     if is_caught table.classes g.class m.thrown then

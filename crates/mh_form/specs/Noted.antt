@@ -2,7 +2,7 @@
 use Rattle.std.specs.Prelude.{List, [], Option, None, Some}
 use Rattle.mh_values.specs.declared.value.Value.{Value}
 
--- the values, where all are there; else none
+-- the values, if all are there; otherwise none
 abbrev pub or_none : Option (List Value) → List Value
 or_none (Some vs) = vs
 or_none None = []

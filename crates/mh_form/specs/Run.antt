@@ -24,12 +24,12 @@ use Rattle.mh_form.specs.declared.field.Field.TheVariants.{Part'}
 use Rattle.mh_form.specs.declared.field.Field.TheVariants as field
 use Rattle.mh_form.specs.Slots.{bounded_slot, called, case_field, default_slots, filled, given, holds_one, converted, ret_converted, made_array, joined_slots, checked_array, item_in, raised_slot}
 
--- what runs on a list of slots, where n leaf calls were made before
+-- what runs on a list of slots, after n earlier leaf calls
 abbrev pub SlotRun : Type 0
 SlotRun = List Slot → ℕ → Ran (Option Slot)
 
--- what a field stands for: a slot, a leaf, a part, the exceptions that a class takes, a conversion, a return conversion, the making of arrays of a
--- component type, or the joining of pieces
+-- What a field stands for: a slot, a leaf, a part, or the exceptions that a class takes. It may also be a conversion, a return conversion, the making of arrays
+-- of a component type, or the joining of pieces.
 pub data Sense : Type 0 where
   IsSlot : Slot → Sense
   IsLeaf : SlotRun → Sense
@@ -93,7 +93,7 @@ field_of kind senses f = of_kind kind (slice_get senses f)
 abbrev pub with_field : {A B : Type 0} → (Sense → Option A) → List Sense → ℕ → (A → Ran B) → Ran B
 with_field kind senses f next = found (field_of kind senses f) next
 
--- a slot before slots, where all are there
+-- a slot before slots, if all are there
 abbrev pub picked_more : Option Slot → Option (List Slot) → Option (List Slot)
 picked_more (Some s) (Some ss) = Some (s ∷ ss)
 picked_more _ _ = None
@@ -108,7 +108,7 @@ abbrev pub result_at : Option ℕ → List Slot → Option (Option Slot)
 result_at None slots = Some None
 result_at (Some p) slots = option_map Some (slice_get slots p)
 
--- goes on with the result at a place, or with nothing where there is no place
+-- goes on with the result at a place, or with nothing if there is no place
 abbrev pub with_result : {B : Type 0} → Option ℕ → List Slot → (Option Slot → Ran B) → Ran B
 with_result None slots next = next None
 with_result (Some p) slots next = found (slice_get slots p) (λ s. next (Some s))
@@ -117,7 +117,7 @@ with_result (Some p) slots next = found (slice_get slots p) (λ s. next (Some s)
 abbrev pub run_field : List Sense → ℕ → List Slot → ℕ → Ran (Option Slot)
 run_field senses f slots n = with_field part_of senses f (λ part. part slots n)
 
--- the part in one field, and where it throws an exception that the test takes, the part in another on the exception and the first arguments
+-- the part in one field, and if it throws an exception that the test takes, the part in another on the exception and the first arguments
 abbrev pub guarded_field : List Sense → ℕ → (Exc → Bool) → ℕ → ℕ → List Slot → ℕ → Ran (Option Slot)
 guarded_field senses f test h kept xs n =
     guarded (run_field senses f xs n) test n (λ e k. run_field senses h (slot.L (value.Thrown e) ∷ take kept xs) k)
@@ -175,7 +175,7 @@ step (Elem i k) senses slots n = found (slice_get slots i) (λ s. found (item_in
 step (Join f args) senses slots n = found (picked slots args) (λ xs. with_field joined_of senses f (λ join. join xs))
 step (Raise i) senses slots n = found (slice_get slots i) raised_slot
 
--- the names in order, and then what comes at their end; a name that throws ends the run
+-- the names in order, and then what follows their last one; a name that throws ends the run
 abbrev pub run_names : {B : Type 0} → List Name → List Sense → List Slot → ℕ → (List Slot → ℕ → Ran B) → Ran B
 run_names [] senses slots n end = end slots n
 run_names (x ∷ xs) senses slots n end =
@@ -185,7 +185,7 @@ run_names (x ∷ xs) senses slots n end =
 abbrev pub ended : Option ℕ → List Slot → ℕ → Ran (Option Slot)
 ended out slots n = with_result out slots (λ r. Gave r [])
 
--- a body on fields of which it is known what they stand for
+-- a body on fields, given what these stand for
 abbrev pub run_body : FormBody → List Sense → SlotRun
 run_body body senses slots n = run_names body.names senses slots n (ended body.out)
 

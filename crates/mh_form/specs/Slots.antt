@@ -40,37 +40,37 @@ default_slot basic.L = slot.L value.Null
 default_slot basic.I = slot.I (pos 0)
 default_slot basic.J = slot.J (pos 0)
 
--- the slot of the default of a basic return type: none if that is void
+-- the slot of the default of a basic return type: none if it is void
 abbrev pub default_slots : BasicRet → List Slot
 default_slots basic_ret.V = []
 default_slots (basic_ret.Is b) = default_slot b ∷ []
 
--- goes on with the turns of a loop, if the slot holds an int that is no more than there may be
+-- goes on with the turns of a loop, if the slot holds an int that is at most the greatest number of turns
 abbrev pub bounded_slot : {B : Type 0} → Slot → (ℕ → Ran B) → Ran B
 bounded_slot (slot.I z) next = bounded z next
 bounded_slot s next = Stuck
 
--- the turns that were told, or the exception of a loop that has too many
+-- the turns that were found, or the exception of a loop that has too many
 abbrev pub told_turns : Option ℕ → Ran ℕ
 told_turns (Some turns) = Gave turns []
 told_turns None = Threw (saying internal_error_class (codes "loop")) []
 
--- the field of the case that the int in a slot picks: the fallback is in the first field, and so many cases follow
+-- the field of the case that the int in a slot picks: the fallback is in the first field, and this many cases follow
 abbrev pub case_field : ℕ → ℕ → Slot → Option ℕ
 case_field first count (slot.I z) = Some (picked_by z (λ k. if nat_lt k count then first + (k + 1) else first) first)
 case_field first count s = None
 
--- the slot holds int 1, as the result of a test that is true does
+-- the slot holds int 1, which is the result of a test that is true
 abbrev pub holds_one : Slot → Bool
 holds_one (slot.I n) = is_one n
 holds_one s = false
 
--- what a name leaves that gives nothing: int 0
+-- what a name that gives nothing puts into its slot: int 0
 abbrev pub none_as_zero : Option Slot → Slot
 none_as_zero None = slot.I (pos 0)
 none_as_zero (Some s) = s
 
--- a run that fills a slot, also where it gives nothing
+-- a run that fills a slot even if it gives nothing
 abbrev pub filled : Ran (Option Slot) → Ran Slot
 filled r = mapped none_as_zero r
 
@@ -119,12 +119,12 @@ abbrev pub joined_at : List Class → List Piece → List Slot → List ℕ → 
 joined_at classes pieces slots places =
     found (typed_at classes slots (arg_types pieces) places) (λ args. filled (erased_ran (ran_of (joined classes pieces args) [])))
 
--- the items of an array in a slot from which so many are wanted, erased
+-- the items, erased, of an array in a slot that must have this many
 abbrev pub spread_slots : ℕ → Slot → Ran (List Slot)
 spread_slots n (slot.L v) = mapped (map erased) (spread_values n v)
 spread_slots n s = Stuck
 
--- a check that gives nothing but an exception
+-- a check that gives nothing, or throws
 abbrev pub checked_array : ℕ → Slot → Ran (Option Slot)
 checked_array n s = mapped (λ items. None) (spread_slots n s)
 

@@ -1,7 +1,7 @@
 use mh_base::Seq;
 
-/// What a type becomes when it is erased, so that forms can be shared between types that differ:
-/// references, numbers that 32 bits hold, and numbers of 64 bits.
+/// What a type becomes when it is erased, so that different types can share forms: references,
+/// numbers that fit into 32 bits, and numbers of 64 bits.
 #[derive(Clone, Copy, Debug, PartialEq, Eq)]
 pub enum Basic {
     /// A reference.
@@ -15,7 +15,7 @@ pub enum Basic {
 /// A list of basic types, as the parameters of a form.
 pub type Basics = Seq<Basic>;
 
-/// What a return type becomes: nothing where it is void.
+/// What a return type becomes: nothing if it is void.
 #[derive(Clone, Copy, Debug, PartialEq, Eq)]
 pub enum BasicRet {
     /// Nothing, for `void`.

@@ -5,8 +5,8 @@ use crate::{Basics, Names};
 use mh_base::Seq;
 use std::alloc::Global;
 
-/// What a form does, apart from what its fields hold: it takes slots of these basic types, runs its
-/// names in order, and gives the slot at a place of the list that they made, or nothing.
+/// What a form does, apart from what its fields hold. It takes slots of these basic types, and runs
+/// its names in order. It gives the slot at a place of the list that they made, or nothing.
 #[derive(Drop)]
 pub struct FormBody {
     pub params: Basics,
@@ -18,7 +18,7 @@ pub struct FormBody {
 }
 
 impl FormBody {
-    /// The body that is no form yet: it takes nothing, has nothing and does nothing. It takes no
+    /// The body before any edit: it takes nothing, has nothing and does nothing. It takes no
     /// memory.
     pub fn nothing(alloc: Global) -> FormBody
         ensures { result ≡ nothing }

@@ -11,11 +11,11 @@ use std::fmt;
 use std::marker::Model;
 use std::snapshot::Snapshot;
 
-/// For how many leaf calls a list that is cleared keeps room, at most.
+/// The most leaf calls for which a cleared list keeps room.
 const MOST_CALLS_KEPT: usize = 1_024;
 
-/// What is kept of a leaf call: the number of its leaf. Contracts see its arguments too, which are
-/// the values of the leaf's types whose erasures stood at places of the run.
+/// What is kept of a leaf call: the number of its leaf. Contracts also see its arguments, which are
+/// the values that slots at places of the run stood for.
 #[derive(Drop)]
 struct Noted {
     leaf: LeafId,
@@ -81,8 +81,8 @@ impl fmt::Debug for Noted {
     }
 }
 
-/// Leaf calls, in the order in which they were made. The number of the leaf alone is kept of each;
-/// contracts see the list of the calls, with their arguments.
+/// Leaf calls, in the order in which they were made. Only the number of the leaf is kept of each.
+/// Contracts see the list of the calls, with their arguments.
 #[derive(Debug, Drop)]
 pub struct Calls {
     calls: Vec<Noted>,
@@ -131,7 +131,7 @@ impl Calls {
     }
 
     /// Puts a call at the end, of a leaf of these types on the slots at these places, counted from
-    /// a base. Where no memory is left, nothing is put there.
+    /// a base. If no memory is left, nothing is put there.
     #[inline(always)]
     pub(crate) fn push(
         &mut self,

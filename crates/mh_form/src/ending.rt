@@ -39,7 +39,7 @@ pub(crate) struct Turning {
 /// The most turns of a loop.
 const MOST_TURNS: u32 = 64;
 
-/// The turns of a loop that ends before the int in a slot, or none where they are too many.
+/// The turns of a loop that ends before the int in a slot, or none if they are too many.
 pub(crate) fn turns_before(end: &Slot) -> Option<u32>
     requires { bounded_slot {B = ℕ} end.now (λ turns. Gave turns []) ≢ Stuck }
     ensures told { told_turns result ≡ bounded_slot end.now (λ turns. Gave turns []) }
@@ -53,7 +53,7 @@ pub(crate) fn turns_before(end: &Slot) -> Option<u32>
     }
 }
 
-// A number of fields more.
+// The field after a number of others.
 fn later(field: u32, more: u32) -> Result<u32, NoMemory>
     ensures { IfOk result (λ found. found ≡ field + more) }
 {
@@ -77,7 +77,7 @@ pub(crate) fn loop_from(first: u32, counts: LoopCounts, ret: BasicRet) -> Result
     })
 }
 
-/// The field of the case that an int picks: the fallback is in the first field, and so many cases
+/// The field of the case that an int picks: the fallback is in the first field, and this many cases
 /// follow.
 pub(crate) fn case_field(number: &Slot, first: u32, count: u32) -> Result<u32, NoMemory>
     requires { case_field first count number.now ≢ None }

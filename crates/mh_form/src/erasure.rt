@@ -97,7 +97,7 @@ fn short(number: i32) -> i16
     number as i16
 }
 
-/// The number of a primitive type of which a slot is the erasure.
+/// The number of a primitive type that a slot stands for.
 #[inline(always)]
 pub(crate) fn number_in(primitive: Primitive, slot: &Slot) -> Num
     requires { number_in primitive slot.now ≢ None }
@@ -126,8 +126,7 @@ fn typed_value(ty: Ty, slot: Slot, classes: &Classes) -> Value
     }
 }
 
-/// A slot as the value of a type of which it is the erasure; the slot lies in the range of the
-/// type.
+/// A slot as the value of a type that it stands for; the slot lies in the range of the type.
 #[inline(always)]
 pub fn typed(ty: Ty, slot: Slot, classes: &Classes) -> Value
     requires { typed classes.now ty slot ≢ None }
@@ -137,7 +136,7 @@ pub fn typed(ty: Ty, slot: Slot, classes: &Classes) -> Value
     typed_value(ty, slot, classes)
 }
 
-/// Slots as the values of types of which they are the erasures, one for each.
+/// Slots as the values of types that they stand for, one for each.
 pub fn all_typed(
     alloc: Global,
     types: &Tys,

@@ -5,7 +5,7 @@ use mh_values::{ClassId, Comp, LeafId};
 use std::alloc::Global;
 use std::sync::Arc;
 
-/// What a form finds in a field. All that handles of one form differ in stands in their fields.
+/// What a form finds in a field. Handles of one form differ only in their fields.
 #[derive(Drop)]
 #[cycle(bound)]
 pub enum Field<'t> {

@@ -37,7 +37,7 @@ struct Guard {
 }
 
 /// Runs a part on the slots of the run under way, and goes on with the run that waits for it, which
-/// has so many slots: it gets what the part gave, or stays as it is where the part threw.
+/// has `count` slots. That run gets what the part gave, or stays as it is if the part threw.
 #[cycle(run)]
 #[inline(always)]
 fn run_part(
@@ -118,8 +118,8 @@ fn step_link(
     run_entered(stack, call, bound, field, count)
 }
 
-/// What a handler gives of the exception of a guarded part, on the arguments of that, which are the
-/// slots of the run under way. An exception of another class goes on.
+/// What a handler gives on the exception of a guarded part and the arguments of that part, which
+/// are the slots of the run under way. An exception of another class goes on.
 #[cycle(run)]
 fn handle(
     stack: &mut Stack,
@@ -196,7 +196,7 @@ fn step_guarded(
     run_guarded(stack, call, bound, guard, count)
 }
 
-/// The field of one of two parts: the first where the slot of the test is int 1.
+/// The field of one of two parts: the first if the slot of the test is int 1.
 #[inline(always)]
 fn chosen(test: &Slot, field: u32, other: u32) -> u32
     ensures { result ≡ (if holds_one test.now then field else other) }
@@ -205,7 +205,7 @@ fn chosen(test: &Slot, field: u32, other: u32) -> u32
 }
 
 /// Runs the part in a field on the slots of the run under way, and goes on with the run that waits
-/// for it, which has so many slots. Answers the slot that the part gave, or none where it threw.
+/// for it, which has this many slots. Answers the slot that the part gave, or none if it threw.
 #[cycle(run)]
 fn run_taking(
     stack: &mut Stack,
@@ -303,7 +303,7 @@ fn run_finally(
 }
 
 /// Runs the turns of a loop on the slots of the run under way, and goes on with the run that waits
-/// for it, which has so many slots: it gets what the last turn gave.
+/// for it. That run gets what the last turn gave.
 #[cycle(run)]
 fn run_turns(
     stack: &mut Stack,
@@ -342,8 +342,8 @@ fn run_turns(
     Ok(Going::On)
 }
 
-/// Runs the start of a loop of so many turns on the first slots of the run under way, and then its
-/// turns.
+/// Runs the start of a loop of this many turns on the first slots of the run under way, and then
+/// its turns.
 #[cycle(run)]
 fn run_started(
     stack: &mut Stack,
@@ -378,7 +378,7 @@ fn run_started(
     }
 }
 
-/// Runs a loop whose iterations gave a slot: `InternalError` where its int is above the most turns.
+/// Runs a loop whose iterations gave a slot: `InternalError` if its int is above the most turns.
 #[cycle(run)]
 fn run_bounded(
     stack: &mut Stack,
@@ -578,10 +578,10 @@ fn run_whole(
     }
 }
 
-/// Runs a body on its fields and on arguments, where `n` leaf calls were made before in the
-/// invocation: the names in order, each putting one slot at the end of a list that begins with the
-/// arguments, until one throws. The body must be well formed for its fields, the arguments, `n`
-/// and the leaves: each name that is reached finds what it takes.
+/// Runs a body on its fields and on arguments, after `n` earlier leaf calls of the invocation. The
+/// names run in order until one throws. Each puts one slot at the end of a list that begins with
+/// the arguments. The body must be well formed for its fields, the arguments, `n` and the leaves:
+/// each name that is reached finds what it takes.
 pub fn run<'t>(
     alloc: Global,
     bound: &Bound<'t>,
@@ -600,9 +600,9 @@ pub fn run<'t>(
     })
 }
 
-/// Runs a body as `run` does, in a machine that is kept from call to call, on values, which are
-/// its arguments when they are erased. Its leaf calls stay in the machine until the next run.
-/// Nothing of the run before is seen, also where that found no memory on its way.
+/// Runs a body as `run` does, in a machine that is kept from call to call, on values, which are its
+/// arguments when they are erased. Its leaf calls stay in the machine until the next run. Nothing
+/// of the run before is seen, even if that run found no memory.
 pub fn run_on(
     machine: &mut Machine,
     bound: &Bound<'_>,

@@ -17,7 +17,7 @@ use mh_pieces::{Piece, Pieces, args_after, push_chars, push_text, text_length};
 use mh_values::{ClassId, Classes, Exc, MOST_CHARACTERS, Ty, Value};
 use std::alloc::Global;
 
-/// The number of characters of the text of the value of a type of which a slot is the erasure.
+/// The number of characters of the text of the value of a type that a slot stands for.
 #[inline(always)]
 fn slot_length(ty: Ty, slot: &Slot, classes: &Classes) -> usize
     requires { typed classes.now ty slot.now ≢ None }

@@ -20,7 +20,7 @@ use mh_leaf::lacks_receiver;
 use mh_values::{Classes, LeafId, Ty, Tys, Value};
 use std::alloc::Global;
 
-/// A copy of the slot at a place as the value of a type of which it is the erasure.
+/// A copy of the slot at a place, as the value of a type that it stands for.
 #[inline(always)]
 fn typed_slot(
     alloc: Global,
@@ -37,8 +37,8 @@ fn typed_slot(
     Ok(typed(ty, slot, classes))
 }
 
-/// Puts the slots at these places into a vector without items, as the values of types of which they
-/// are the erasures, one for each.
+/// Puts the slots at these places into a vector without items, as the values of types that they
+/// stand for, one for each.
 #[inline(always)]
 pub(crate) fn typed_at(
     values: &mut Vec<Value>,
@@ -64,7 +64,7 @@ pub(crate) fn typed_at(
 }
 
 /// Notes a call of a leaf on the slots at these places, if it runs on the arguments that are
-/// loaded, which are those.
+/// loaded. These are the values of those slots.
 #[inline(always)]
 fn note(
     stack: &mut Stack,
@@ -87,8 +87,8 @@ fn note(
     stack.note(id, types, places, call.leaves.classes())
 }
 
-/// Calls a leaf on the arguments that are loaded, which are the slots at these places, and have its
-/// types.
+/// Calls a leaf on the arguments that are loaded, which are the slots at these places as values of
+/// its types.
 #[inline(always)]
 fn call_loaded(
     stack: &mut Stack,

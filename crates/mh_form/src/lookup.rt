@@ -1,4 +1,4 @@
-//! What stands in a field, where it is of the kind that is asked for.
+//! What is in a field, if it is of the kind that is asked for.
 
 ghost use Rattle.std.specs.Prelude.{◌≡◌, slice_get};
 ghost use Rattle.std.specs.Option.{option_copied, option_map};

@@ -11,9 +11,9 @@ use std::marker::Model;
 /// slots, of the arguments of leaves, and of the leaf calls. Contracts see the leaf calls of the
 /// last run, which stay until the next one begins.
 ///
-/// A run begins with no slots and no leaf calls, whatever was left, also where the last one found
-/// no memory on its way. Once a run has ended, the machine keeps room for 4,096 slots at most, and
-/// once the next has begun, for 1,024 leaf calls; what has more is given back.
+/// A run begins with no slots and no leaf calls, whatever was left, even if the last one found no
+/// memory. Once a run has ended, the machine keeps room for at most 4,096 slots. Once the next has
+/// begun, it keeps room for at most 1,024 leaf calls. A vector with more room is given back.
 #[derive(Drop)]
 pub struct Machine {
     pub(crate) stack: Stack,

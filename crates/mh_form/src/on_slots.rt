@@ -1,15 +1,17 @@
 //! Leaves that need no values of the slots on which they are called.
 
-ghost use Rattle.std.specs.Prelude.{◌≡◌, ◌≢◌, IfOk, None, option_copied};
+ghost use Rattle.std.specs.Prelude.{◌≡◌, ◌≢◌, IfOk, None, option_copied, option_map};
 ghost use Rattle.std.specs.Int.{cast_signed, w32};
 ghost use Rattle.mh_leaf.specs.Outcome.{is_same_int};
-ghost use Rattle.mh_form.specs.OnSlots.{first_at, ints_at, longs_at, on_slots, only_at, picked_at, truth};
+ghost use Rattle.mh_form.specs.OnSlots.{first_at, ints_at, longs_at, on_slots, only_at, picked_at};
+ghost use Rattle.mh_form.specs.OnSlots.{reference, references_at, returned_slot, truth};
 ghost use Rattle.mh_form.specs.Run.{picked};
 
-use crate::Slot;
 use crate::slots::{holds_one, slot_at};
+use crate::{Slot, erase};
 use mh_base::{Copied, NoMemory};
-use mh_leaf::Kind;
+use mh_leaf::{Kind, joined, measured};
+use mh_values::{Outcome, Value};
 use std::alloc::Global;
 
 /// The ints in the slots at two places.
@@ -38,6 +40,43 @@ fn longs_at(slots: &[Slot], places: &[u32]) -> Option<(i64, i64)>
     };
     match (slot_at(slots, *first), slot_at(slots, *second)) {
         (Slot::J(a), Slot::J(b)) => Some((*a, *b)),
+        _ => None,
+    }
+}
+
+/// The references in the slots at two places.
+#[inline(always)]
+fn references_at<'a>(slots: &'a [Slot], places: &[u32]) -> Option<(&'a Value, &'a Value)>
+    requires { picked slots.now places.now ≢ None }
+    ensures { option_map (λ p. (p.0.now, p.1.now)) result ≡ references_at slots.now places.now }
+{
+    let [first, second] = places else {
+        return None;
+    };
+    match (slot_at(slots, *first), slot_at(slots, *second)) {
+        (Slot::L(a), Slot::L(b)) => Some((a, b)),
+        _ => None,
+    }
+}
+
+/// The reference in a slot.
+#[inline(always)]
+fn reference(slot: &Slot) -> Option<&Value>
+    ensures { option_copied result ≡ reference slot.now }
+{
+    match slot {
+        Slot::L(value) => Some(value),
+        _ => None,
+    }
+}
+
+/// The slot of the value that an outcome returns.
+#[inline(always)]
+fn returned_slot(outcome: Outcome) -> Option<Slot>
+    ensures { result ≡ returned_slot outcome }
+{
+    match outcome {
+        Outcome::Return(Some(value)) => Some(erase(value)),
         _ => None,
     }
 }
@@ -74,8 +113,8 @@ fn first_at<'a>(slots: &'a [Slot], places: &[u32]) -> Option<&'a Slot>
     }
 }
 
-/// The slot at the second of three places if the one at the first holds int 1, else that at the
-/// third.
+/// The slot at the second of three places if the one at the first holds int 1, otherwise that at
+/// the third.
 #[inline(always)]
 fn picked_at<'a>(slots: &'a [Slot], places: &[u32]) -> Option<&'a Slot>
     requires { picked slots.now places.now ≢ None }
@@ -184,6 +223,26 @@ fn negated(slots: &[Slot], places: &[u32]) -> Option<Slot>
     Some(truth(!holds_one(slot)))
 }
 
+/// `concat`, if the whole is not too long for a text.
+fn concatenated(alloc: Global, slots: &[Slot], places: &[u32]) -> Result<Option<Slot>, NoMemory>
+    requires { picked slots.now places.now ≢ None }
+    ensures { IfOk result (λ given. given ≡ on_slots Kind.Concat slots.now places.now 0) }
+{
+    let Some((first, second)) = references_at(slots, places) else {
+        return Ok(None);
+    };
+    Ok(returned_slot(joined(alloc, first, second)?))
+}
+
+/// `length` of a text.
+fn length(slots: &[Slot], places: &[u32]) -> Option<Slot>
+    requires { picked slots.now places.now ≢ None }
+    ensures { result ≡ on_slots Kind.Length slots.now places.now 0 }
+{
+    let value = reference(only_at(slots, places)?)?;
+    returned_slot(measured(value)?)
+}
+
 /// The signed number with the bits of a count.
 #[inline(always)]
 fn signed(n: u32) -> i32
@@ -192,8 +251,8 @@ fn signed(n: u32) -> i32
     n.cast_signed()
 }
 
-/// What a leaf of a kind gives on the slots at these places, where `n` leaf calls were made before
-/// in the invocation; `None` if that needs values of the slots.
+/// What a leaf of a kind gives on the slots at these places, after `n` earlier leaf calls of the
+/// invocation; `None` if that needs values of the slots.
 #[inline(always)]
 pub(crate) fn on_slots(
     alloc: Global,
@@ -218,6 +277,8 @@ pub(crate) fn on_slots(
         Kind::Pick => copied(alloc, picked_at(slots, places)),
         Kind::Tick => Ok(Some(Slot::I(signed(n)))),
         Kind::Note => Ok(Some(Slot::I(0))),
-        Kind::Idiv | Kind::Concat | Kind::Length | Kind::Throw(_) => Ok(None),
+        Kind::Concat => concatenated(alloc, slots, places),
+        Kind::Length => Ok(length(slots, places)),
+        Kind::Idiv | Kind::Throw(_) => Ok(None),
     }
 }

@@ -126,7 +126,7 @@ pub(crate) fn array(
     stack.give(array)
 }
 
-/// Checks that the slot at a place holds an array of so many items.
+/// Checks that the slot at a place holds an array of this many items.
 #[inline(never)]
 pub(crate) fn check(stack: &mut Stack, slot: u32, count: u32) -> Result<Going, NoMemory>
     requires { step (CheckArray slot count) [] stack.old.frame 0 ≢ Stuck }

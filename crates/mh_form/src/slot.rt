@@ -1,7 +1,8 @@
 use mh_base::Seq;
 use mh_values::Value;
 
-/// A value whose type is erased: a number but a `long` is the int that it is, a `boolean` 0 or 1.
+/// A value whose type is erased: each number except a `long` is the int that it is, and a `boolean`
+/// is 0 or 1.
 #[derive(Drop)]
 pub enum Slot {
     I(i32),

@@ -21,14 +21,14 @@ use std::alloc::Global;
 use std::marker::Model;
 use std::mem;
 
-/// How many slots a run mostly puts after its arguments, at most.
+/// A bound on the slots that most runs put after their arguments.
 const ROOM_FOR_NAMES: usize = 8;
 
-/// For how many slots a stack on which nothing runs keeps room, at most.
+/// The most slots for which a stack on which nothing runs keeps room.
 const MOST_SLOTS_KEPT: usize = 4_096;
 
-/// The slots of the run under way above those of the runs that wait for it, the arguments of the
-/// leaf that is called, the leaf calls so far, and the exception that was thrown last.
+/// The slots of the run under way above those of the runs that wait for it. Also the arguments of
+/// the leaf that is called, the leaf calls so far, and the exception that was thrown last.
 #[derive(Drop)]
 pub(crate) struct Stack {
     slots: Vec<Slot>,
@@ -71,7 +71,7 @@ impl Stack {
         }
     }
 
-    /// Drops all that was left of the last run, wherever that ended: slots and leaf calls.
+    /// Drops all that was left of the last run, however that ended: slots and leaf calls.
     pub(crate) fn clear(&mut self)
         ensures below { self.new.below ≡ [] }
         ensures frame { self.new.frame ≡ [] }
@@ -92,7 +92,7 @@ impl Stack {
         clear_within(&mut self.slots, MOST_SLOTS_KEPT);
     }
 
-    /// Begins anew, on copies of these values as slots, whatever was left.
+    /// Begins a run on copies of these values as slots, whatever was left.
     #[inline(always)]
     pub(crate) fn begin_on(&mut self, values: &Items) -> Result<(), NoMemory>
         ensures frame { OnOk result (self.new.frame ≡ map erased values.now) }
@@ -109,7 +109,7 @@ impl Stack {
         Ok(())
     }
 
-    /// Other leaf calls in place of those so far, which are answered.
+    /// Puts other leaf calls in place of those so far, and answers these.
     pub(crate) fn exchange_calls(&mut self, calls: Calls) -> Calls
         ensures given { result ≡ self.old.calls }
         ensures held { self.new ≡ record self.old { calls = calls } }
@@ -207,8 +207,7 @@ impl Stack {
         }
     }
 
-    /// Takes the slots at these places as the arguments of a leaf, of whose types they are the
-    /// erasures.
+    /// Takes the slots at these places as the arguments of a leaf, as values of its types.
     #[inline(always)]
     pub(crate) fn load(
         &mut self,
@@ -320,8 +319,8 @@ impl Stack {
         Ok(())
     }
 
-    // Puts copies after all slots: of the first slots of the run under way, as many as are kept of
-    // those that it had before others were put there.
+    // Puts copies of the first `kept` slots of the run under way after all slots. It had `own`
+    // slots before others were put there.
     fn push_kept(&mut self, own: usize, kept: usize) -> Result<(), NoMemory>
         requires { own ≤ length self.old.frame }
         ensures { OnOk result (self.new
@@ -348,8 +347,8 @@ impl Stack {
         Ok(count)
     }
 
-    /// Begins a run on copies of the first slots of the run under way, as many as are kept, while
-    /// that waits. Answers how many slots it has.
+    /// Begins a run on copies of the first `kept` slots of the run under way, which waits. Answers
+    /// how many slots that has.
     pub(crate) fn enter_first(&mut self, kept: u32) -> Result<usize, NoMemory>
         ensures frame { OnOk result (self.new.frame ≡ take kept self.old.frame) }
         ensures below { OnOk result (self.new.below ≡ self.old.below ++ self.old.frame) }
@@ -380,8 +379,8 @@ impl Stack {
         self.push(Slot::I(number as i32))
     }
 
-    /// Begins a run on a slot, if there is one, an int, and copies of the first slots of the run
-    /// under way, as many as are kept, while that waits. Answers how many slots it has.
+    /// Begins a run on a slot, if there is one, an int, and copies of the first `kept` slots of the
+    /// run under way, which waits. Answers how many slots that has.
     pub(crate) fn enter_turn(
         &mut self,
         given: Option<Slot>,
@@ -416,7 +415,7 @@ impl Stack {
         }
     }
 
-    // Drops the slots of the run under way after the first, as many as are kept.
+    // Drops all slots of the run under way except the first `kept`.
     fn keep_first(&mut self, kept: u32)
         ensures frame { self.new.frame ≡ take kept self.old.frame }
         ensures below { self.new.below ≡ self.old.below }
@@ -450,7 +449,7 @@ impl Stack {
     }
 
     /// The run under way gives way to one on a slot, on another if there is one, and on the first
-    /// of its own slots, as many as are kept.
+    /// `kept` of its own slots.
     pub(crate) fn end_with(
         &mut self,
         first: Slot,
@@ -467,7 +466,7 @@ impl Stack {
         self.put_first(first)
     }
 
-    // Takes the slot at a place out of the run under way, in which int 0 stands then.
+    // Takes the slot at a place out of the run under way, and leaves int 0 there.
     #[inline(always)]
     fn take_at(&mut self, place: usize) -> Slot
         requires { slice_get self.old.frame place ≢ None }
@@ -492,7 +491,7 @@ impl Stack {
         }
     }
 
-    // Takes the slot that the run under way gives: int 0 where it gives none.
+    // Takes the slot that the run under way gives: int 0 if it gives none.
     #[inline(always)]
     fn take_slot(&mut self, out: Option<u32>) -> Slot
         requires { result_at out self.old.frame ≢ None }
@@ -516,8 +515,8 @@ impl Stack {
         mem::replace(&mut self.thrown, Exc::bare(ClassId::NULL_POINTER))
     }
 
-    /// Drops the slots of the run under way, and goes on with the run that waits, which has so
-    /// many.
+    /// Drops the slots of the run under way, and goes on with the run that waits, which has `count`
+    /// slots.
     #[inline(always)]
     pub(crate) fn leave(&mut self, count: usize)
         requires { count ≤ length self.old.below }
@@ -527,7 +526,7 @@ impl Stack {
         self.base -= count;
     }
 
-    /// Goes on with the run that waits, which has so many slots, and gives it the result of the run
+    /// Goes on with the run that waits, which has `count` slots, and gives it the result of the run
     /// under way.
     #[inline(always)]
     pub(crate) fn leave_with(&mut self, out: Option<u32>, count: usize) -> Result<(), NoMemory>
@@ -544,8 +543,8 @@ impl Stack {
         self.push(given)
     }
 
-    /// Goes on with the run that waits, which has so many slots, and gives it the last slot of the
-    /// run under way, which stands after so many others.
+    /// Goes on with the run that waits, which has `count` slots, and gives it the last slot of the
+    /// run under way, which comes after `others` others.
     pub(crate) fn leave_with_last(&mut self, others: usize, count: usize) -> Result<(), NoMemory>
         requires last { slice_get self.old.frame others ≢ None }
         requires waits { count ≤ length self.old.below }
@@ -559,8 +558,8 @@ impl Stack {
         self.push(given)
     }
 
-    /// The run under way gives way to that of a handler, on the exception and on the first of its
-    /// own slots, as many as are kept.
+    /// The run under way gives way to that of a handler, on the exception and on the first `kept`
+    /// of its own slots.
     pub(crate) fn hand_over(&mut self, kept: u32) -> Result<(), NoMemory>
         ensures frame { OnOk result
             (self.new.frame ≡ slot.L (Thrown self.old.thrown) ∷ take kept self.old.frame) }

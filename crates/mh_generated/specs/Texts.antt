@@ -6,8 +6,8 @@ use Rattle.mh_made_class.specs.Constants.{bootstrap_type}
 unfoldable pub generated_manifest : List ℕ
 generated_manifest = codes "class made/Host java/lang/Object\nstatic made/Host add (II)I iadd\nstatic made/Host same (I)I same\n"
 
--- the scripts: one, `made/Boot.link`, which gives a sum with its static argument, filters the argument of the call by the other leaf, and
--- uses that as the type of the call site
+-- The one script, `made/Boot.link`. It gives a sum with its static argument, filters the argument of the call by the other leaf, and uses that as the type of
+-- the call site.
 unfoldable pub generated_scripts : List ℕ
 generated_scripts =
     codes "script made/Boot link " ++ bootstrap_type

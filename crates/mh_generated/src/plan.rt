@@ -14,7 +14,7 @@ fn push_number(text: &mut Vec<u8>, number: u32) -> Result<(), NoMemory>
     Ok(())
 }
 
-// The line of a call: of which site, and with its number as the argument.
+// The line of a call: the site that it calls, and its number as the argument.
 #[tactic(auto, unfolding(crate::specs::Plan::call_text))]
 fn push_call(text: &mut Vec<u8>, sites: u32, thread: u32, call: u32) -> Result<(), NoMemory>
     requires some { 1 ≤ sites }

@@ -10,7 +10,7 @@ pub record FormView : Type 0 where
   pub number : ℕ
   pub recipe : List Key
 
--- the greatest number of a form: there are at most so many forms beside the base of all
+-- the greatest number of a form: there are at most this many forms, not counting the base of all
 abbrev pub most_forms : ℕ
 most_forms = 16384
 

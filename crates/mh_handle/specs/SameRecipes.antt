@@ -38,7 +38,7 @@ key_numbers (key.Convert params ret) = 13 ∷ ret_entry_number ret ∷ map entry
 key_numbers (key.Spread count b) = 14 ∷ count ∷ basic_number b ∷ []
 key_numbers (key.Gather count b) = 15 ∷ count ∷ basic_number b ∷ []
 
--- two keys are one where their numbers are
+-- two keys are equal if their numbers are
 abbrev pub same_key : Key → Key → Bool
 same_key a b = bytes_eq (key_numbers a) (key_numbers b)
 

@@ -1,4 +1,4 @@
--- Tables of forms, and the seats through which the numbers of forms are drawn.
+-- Tables of forms, and the seats with which the numbers of forms are drawn.
 use Rattle.std.specs.Prelude.{◌≡◌, ℕ, zero, suc, ◌+◌, ◌-◌, ◌^◌, ◌<◌, List, [], ◌∷◌, ◌++◌, length}
 use Rattle.std.specs.List.{All}
 use Rattle.mh_setonce.specs.Views.{ChainView}

@@ -65,7 +65,7 @@ fn typed_form<'t, R: Wait>(
 }
 
 /// The handle that an edit makes. If it makes none, it gives back the types of the side parts.
-fn made_from<'t, R: Wait>(
+fn make_from<'t, R: Wait>(
     w: &mut Work<'_, 't>,
     rt: &R,
     from: Untyped<'t>,
@@ -151,14 +151,14 @@ impl<'t> Handle<'t> {
             fields,
             sides,
         };
-        let made = made_from(w, rt, from, by);
+        let made = make_from(w, rt, from, by);
         w.let_go(own);
         made
     }
 
     /// A handle whose form is made by a root. If none is made, the parts of the growth are given
     /// back.
-    pub fn rooted<R: Wait>(
+    pub fn make_rooted<R: Wait>(
         w: &mut Work<'_, 't>,
         rt: &R,
         by: Growth<'t>,
@@ -180,7 +180,7 @@ impl<'t> Handle<'t> {
             fields: Vec::new(w.alloc),
             sides: Vec::new(w.alloc),
         };
-        made_from(w, rt, from, by)
+        make_from(w, rt, from, by)
     }
 }
 
@@ -193,8 +193,8 @@ pub fn one_field<'t>(alloc: Global, field: Field<'t>) -> Result<Fields<'t>, NoMe
     Ok(fields)
 }
 
-/// Fields followed by others, and held types likewise. If memory runs out, the types stay where
-/// they are.
+/// Fields followed by others, and held types followed by others. If memory runs out, the types stay
+/// where they are.
 fn joined<'t>(
     fields: Fields<'t>,
     more: Fields<'t>,

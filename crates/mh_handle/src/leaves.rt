@@ -42,7 +42,7 @@ pub fn leaf<'t, R: Wait>(
         key: Key::LeafRoot { shape },
         parts: Parts::of_fields(w.alloc, fields),
     };
-    Handle::rooted(w, rt, by)
+    Handle::make_rooted(w, rt, by)
 }
 
 // Shows, for proofs, that the leaves of a manifest are well typed. It does nothing when it runs.

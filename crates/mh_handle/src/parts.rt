@@ -52,7 +52,7 @@ impl<'t> Parts<'t> {
         }
     }
 
-    /// Fields of which none holds a handle.
+    /// Fields none of which holds a handle.
     pub fn of_fields(alloc: Global, fields: Fields<'t>) -> Parts<'t>
         ensures { result ≡ record no_parts { fields = fields.entry.items } }
     {

@@ -191,7 +191,7 @@ impl<'t> FormPass<'t> {
     }
 
     /// Makes a form that was neither asked for nor learnt, with a number of its own. If another
-    /// pass has made it meanwhile, it takes that one.
+    /// pass has made it in the meantime, it takes that one.
     pub(crate) fn make<R: Wait>(
         &mut self,
         rt: &R,
@@ -251,7 +251,8 @@ fn reserve_one<'t>(forms: &mut Vec<&'t Form>) -> Result<(), NoMemory>
     Ok(())
 }
 
-/// The form that the table has, from whichever pass. If this pass has put it, it is noted as made.
+/// The form that the table has, whichever pass has put it. If this pass has put it, it is noted as
+/// made.
 fn kept<'t>(made: &mut Vec<&'t Form>, put: Put<'t, Form>) -> &'t Form
     requires { vec_len made.old < vec_capacity made.old }
     ensures has { (learnt : List FormView) (ours : FormView) → IsPut learnt ours put.entry

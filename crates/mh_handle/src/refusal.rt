@@ -11,7 +11,7 @@ use mh_tree::CheckError;
 impl<'t> Handle<'t> {
     /// Gives back the handle that a combinator refuses, and answers the refusal. It takes no
     /// memory.
-    pub fn refused(self, w: &mut Work<'_, 't>, error: CheckError) -> Result<Handle<'t>, HandleError>
+    pub fn refuse(self, w: &mut Work<'_, 't>, error: CheckError) -> Result<Handle<'t>, HandleError>
         requires of_types { w.old.seat.now.table ≡ w.old.types.now }
         requires held { HoldsTypes w.old self.held }
         ensures unchanged { IsUnchanged w.old w.new }

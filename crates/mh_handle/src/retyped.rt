@@ -15,7 +15,7 @@ impl<'t> Handle<'t> {
     /// A handle of another type and weight with the same form and fields, for a combinator that
     /// adds no key. The erased parameters of both types must be equal. If the type cannot be held,
     /// the handle is given back.
-    pub fn retyped<R: Wait>(
+    pub fn retype<R: Wait>(
         self,
         w: &mut Work<'_, 't>,
         rt: &R,

@@ -88,7 +88,7 @@ fn call_generic<'t, R: Wait>(
 }
 
 /// What a call answers. If arguments do not have the types of the handle's parameters, the answer
-/// is want of memory.
+/// is lack of memory.
 pub(crate) fn call<'t, R: Wait>(
     w: &mut Work<'_, 't>,
     rt: &R,

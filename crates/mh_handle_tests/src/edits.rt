@@ -12,7 +12,7 @@ use mh_handle::{EditError, Form, FormPass, FormTable};
 use std::alloc::Global;
 use std::sync::Wait;
 
-/// So many basic types I.
+/// This many basic types I.
 fn ints(alloc: Global, count: u32) -> Result<Seq<Basic>, NoMemory> {
     let mut basics = Seq::new(alloc);
     for _ in 0..count {
@@ -21,7 +21,7 @@ fn ints(alloc: Global, count: u32) -> Result<Seq<Basic>, NoMemory> {
     Ok(basics)
 }
 
-/// The form of a leaf that takes so many ints and returns nothing.
+/// The form of a leaf that takes this many ints and returns nothing.
 pub(crate) fn root<'t, R: Wait>(
     rt: &R,
     alloc: Global,
@@ -42,7 +42,7 @@ pub(crate) fn root<'t, R: Wait>(
     table.edit(rt, alloc, pass, table.base(), Key::LeafRoot { shape })
 }
 
-/// The key that takes so many ints more, first of all. It fits each form that was made.
+/// The key that takes this many ints more, first of all. It fits each form that was made.
 pub(crate) fn more_ints(alloc: Global, count: u32) -> Result<Key, NoMemory>
     ensures { IfOk result (λ key. (body : FormBody) → is_nothing body ≡ false
         → IsTrue (fits key body)) }

@@ -1,4 +1,4 @@
-//! Two passes over one table, one after the other and beside each other.
+//! Two passes over one table, one after the other and concurrently.
 ghost use Rattle.std.specs.Prelude.{◌≡◌, ◌+◌, ◌≤◌, false};
 ghost use Rattle.mh_edit.specs.Fit.{is_nothing};
 ghost use Rattle.mh_handle.specs.Form.{body_of};
@@ -170,6 +170,6 @@ fn two_threads_that_edit_by_the_same_keys_have_the_same_forms(rt: HostRuntime) -
     assert!(rt; do_differ(numbers.joined.as_slice()));
     assert_eq!(rt; numbers.asked, 1 + EDITS);
     // A number that a thread drew for a form that the other had put first is no form's.
-    assert!(rt; (202..=402).contains(&numbers.next));
+    assert!(rt; (202..=402).contains(&numbers.next), "{}", numbers.next);
     Ok(())
 }

@@ -23,7 +23,8 @@ const ROUNDS: u64 = 100;
 /// How many roots there are, and how many forms are made of each.
 const KINDS: u32 = 8;
 
-/// A recipe of the set: a leaf's root that takes so many ints, and then so many more first of all.
+/// A recipe of the set: a leaf's root that takes this many ints, and then this many more first of
+/// all.
 #[derive(Drop, Clone, Copy)]
 struct Recipe {
     ints: u32,

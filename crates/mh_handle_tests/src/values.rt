@@ -5,7 +5,7 @@ use std::alloc::Global;
 use std::test::Fail;
 use std::thread;
 
-/// A text of so many characters.
+/// A text of this many characters.
 fn text(alloc: Global, count: usize) -> Result<Str, NoMemory> {
     let mut characters = Seq::new(alloc);
     for _ in 0..count {

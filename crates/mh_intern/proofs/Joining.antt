@@ -9,11 +9,11 @@ use Rattle.mh_intern.specs.declared.holding.Holding.{Holding}
 use Rattle.mh_intern.specs.Buckets.{bucket_of, bucket_at}
 use Rattle.mh_intern.specs.Held.{on_slot, on_type, has, weight, asks, uses, IsFull, Fits, Held}
 use Rattle.mh_seats.specs.Room.{times}
-use Rattle.mh_intern.specs.Kinds.{joined, nothing}
+use Rattle.mh_intern.specs.Kinds.{joined_views, nothing}
 use Rattle.mh_seats.proofs.Totals.{total_set, each_set}
 use Rattle.mh_intern.proofs.Measures.{weight_joined, keeps_joined, zeros_joined, on_slot-holds_joined, on_slot_joined, on_type_joined, has-holds_joined, has_joined, asks_joined, uses_joined}
 
-fits_joined : (v w : Holding) → Fits v → Fits w → Fits (joined v w)
+fits_joined : (v w : Holding) → Fits v → Fits w → Fits (joined_views v w)
 fits_joined v w f g = record {
   slots = λ k e. omega (
     arith,
@@ -43,9 +43,9 @@ fits_joined v w f g = record {
 fits_nothing : Fits nothing
 fits_nothing = record { slots = λ k e. refl; types = λ t e. refl; zeros = λ k e. refl; full = All-nil IsFull; idle = λ e t. refl }
 
-pub joins_allowed : (id : ℕ) (v : Holding) (other : ℕ) (w : Holding) → Joins Held id v other w (joined v w) nothing
+pub joins_allowed : (id : ℕ) (v : Holding) (other : ℕ) (w : Holding) → Joins Held id v other w (joined_views v w) nothing
 joins_allowed id v other w s h at apart there =
-    let both : Holding = joined v w in
+    let both : Holding = joined_views v w in
     let same : (f : Holding → ℕ) → f both ≡ f v + f w → f nothing ≡ 0 → sum_by f (set (set s.views id both) other nothing) ≡ sum_by f s.views =
     λ f added spent. omega (arith, total_set f s.views id v both at, total_set f (set s.views id both) other w nothing there) in
     let theirs : get_elem? s.views other ≡ some w = sym (set_else s.views id other both apart) ∙ there in

@@ -8,7 +8,7 @@ use Rattle.mh_intern.specs.declared.holding.FullBucket.{FullBucket}
 use Rattle.mh_intern.specs.declared.holding.Holding.{Holding}
 use Rattle.mh_intern.specs.Held.{times_type, on_slot, on_type, has, weight, asks, uses}
 use Rattle.mh_seats.specs.Room.{times}
-use Rattle.mh_intern.specs.Kinds.{joined}
+use Rattle.mh_intern.specs.Kinds.{joined_views}
 
 module _ {A : Type 0} (p : A → Bool) where
   pub count_append : (xs ys : List A) → count_by p (xs ++ ys) ≡ count_by p xs + count_by p ys
@@ -23,34 +23,34 @@ times_type-append t ts us = count_append (λ (u : MethodTy). is_same_method_type
 
 -- what is counted of two views that are joined
 module _ (v w : Holding) where
-  pub weight_joined : weight (joined v w) ≡ weight v + weight w
+  pub weight_joined : weight (joined_views v w) ≡ weight v + weight w
   weight_joined = omega (arith, length-append w.holds v.holds)
 
-  pub keeps_joined : (b : ℕ) → times b (joined v w).keeps ≡ times b v.keeps + times b w.keeps
+  pub keeps_joined : (b : ℕ) → times b (joined_views v w).keeps ≡ times b v.keeps + times b w.keeps
   keeps_joined b = omega (arith, count_append (λ (y : ℕ). y == b) w.keeps v.keeps)
 
-  pub zeros_joined : (b : ℕ) → times b (joined v w).zeros ≡ times b v.zeros + times b w.zeros
+  pub zeros_joined : (b : ℕ) → times b (joined_views v w).zeros ≡ times b v.zeros + times b w.zeros
   zeros_joined b = omega (arith, count_append (λ (y : ℕ). y == b) w.zeros v.zeros)
 
-  pub on_slot-holds_joined : (k : ℕ) → on_slot k (joined v w).holds ≡ on_slot k v.holds + on_slot k w.holds
+  pub on_slot-holds_joined : (k : ℕ) → on_slot k (joined_views v w).holds ≡ on_slot k v.holds + on_slot k w.holds
   on_slot-holds_joined k = omega (arith, count_append (λ (e : Entry). e.slot == k) w.holds v.holds)
 
-  pub on_slot_joined : (k : ℕ) → on_slot k (joined v w).entries ≡ on_slot k v.entries + on_slot k w.entries
+  pub on_slot_joined : (k : ℕ) → on_slot k (joined_views v w).entries ≡ on_slot k v.entries + on_slot k w.entries
   on_slot_joined k = omega (arith, count_append (λ (e : Entry). e.slot == k) w.entries v.entries)
 
-  pub on_type_joined : (t : MethodTy) → on_type t (joined v w).entries ≡ on_type t v.entries + on_type t w.entries
+  pub on_type_joined : (t : MethodTy) → on_type t (joined_views v w).entries ≡ on_type t v.entries + on_type t w.entries
   on_type_joined t = omega (arith, count_append (λ (e : Entry). is_same_method_type e.ty t) w.entries v.entries)
 
-  pub has-holds_joined : (k : ℕ) (t : MethodTy) → has k t (joined v w).holds ≡ has k t v.holds + has k t w.holds
+  pub has-holds_joined : (k : ℕ) (t : MethodTy) → has k t (joined_views v w).holds ≡ has k t v.holds + has k t w.holds
   has-holds_joined k t = omega (arith, count_append (λ (e : Entry). (e.slot == k) && is_same_method_type e.ty t) w.holds v.holds)
 
-  pub has_joined : (k : ℕ) (t : MethodTy) → has k t (joined v w).entries ≡ has k t v.entries + has k t w.entries
+  pub has_joined : (k : ℕ) (t : MethodTy) → has k t (joined_views v w).entries ≡ has k t v.entries + has k t w.entries
   has_joined k t = omega (arith, count_append (λ (e : Entry). (e.slot == k) && is_same_method_type e.ty t) w.entries v.entries)
 
-  pub asks_joined : (t : MethodTy) → asks t (joined v w) ≡ asks t v + asks t w
+  pub asks_joined : (t : MethodTy) → asks t (joined_views v w) ≡ asks t v + asks t w
   asks_joined t = omega (arith, count_append (λ (u : MethodTy). is_same_method_type u t) w.asked v.asked)
 
-  pub uses_joined : (t : MethodTy) → uses t (joined v w) ≡ uses t v + uses t w
+  pub uses_joined : (t : MethodTy) → uses t (joined_views v w) ≡ uses t v + uses t w
   uses_joined t =
       omega (
         arith,

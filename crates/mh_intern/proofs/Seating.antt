@@ -14,7 +14,7 @@ use Rattle.mh_seats.specs.Room.{limit}
 use Rattle.mh_intern.specs.declared.error.InternError.{InternError}
 use Rattle.mh_intern.specs.declared.error.InternError.TheVariants.{NoMemory, TypesFull}
 use Rattle.mh_intern.specs.Lists.{Agrees, removed}
-use Rattle.mh_intern.specs.Kinds.{joined}
+use Rattle.mh_intern.specs.Kinds.{joined_views}
 use Rattle.mh_intern.specs.Interning.{Interned}
 use Rattle.mh_intern.specs.Seats.{IsSeated, AskedForFull}
 use Rattle.mh_intern.proofs.Measures.{count_cons, count_append}
@@ -111,7 +111,7 @@ seated_interned t v (Err (TypesFull b)) w (is, (f, for, now)) s room agrees full
     seated_looked w agrees full asked most (λ k le. ap (on_slot k) holds ∙ s.small k le) (omega arith)
 
 -- after a join
-pub seated_joined : (v u w : Holding) → w ≡ joined v u → IsSeated v.holds v.room v.asked v.full → IsSeated u.holds u.room u.asked u.full
+pub seated_joined : (v u w : Holding) → w ≡ joined_views v u → IsSeated v.holds v.room v.asked v.full → IsSeated u.holds u.room u.asked u.full
     → Agrees w.holds → All IsFull w.full → (weight w ≡ limit → (t : MethodTy) → 0 < uses t w → 0 < asks t w) → weight w ≤ limit →
     IsSeated w.holds w.room w.asked w.full
 seated_joined v u w now s o agrees full asked most =

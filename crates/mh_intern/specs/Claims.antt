@@ -1,4 +1,4 @@
--- The table of claims between any two steps, and what its steps tell.
+-- The table of claims between any two steps, and what a step says.
 use Rattle.std.specs.Prelude.{◌≡◌, ℕ, ◌<◌, List, [], ◌∷◌, ◌++◌, length, sum_by, slice_index, ◌⊎◌, Option, None, Some, option_map}
 use mathlib.Core.Option.{some, none}
 use mathlib.Core.Option as home
@@ -12,7 +12,7 @@ use Rattle.mh_seats.specs.Room.{times}
 use Rattle.mh_intern.specs.Buckets.{buckets}
 use Rattle.mh_intern.specs.Keep.{IsKeeper}
 
--- what lies in the slot of a bucket: its keeper, or nothing
+-- what the slot of a bucket has: its keeper, or nothing
 abbrev pub KeeperSlot : Type 0
 KeeperSlot = Option Keeper
 
@@ -28,7 +28,7 @@ claiming v claims = record { like = v.like; claims = claims }
 abbrev pub HasKeeper : TableId → ℕ → KeeperSlot → Type 0
 HasKeeper holders b x = (k : Keeper) × (x ≡ Some k) × IsKeeper holders b k
 
--- free, with its keeper at home; or taken, and the slot is out
+-- a bucket is free and its keeper is in the slot, or it is claimed and the slot is empty
 abbrev pub IsFreeOrTaken : TableId → ℕ → ℕ → home.Option KeeperSlot → Type 0
 IsFreeOrTaken holders b n h = ((n ≡ 0) × ((x : KeeperSlot) × (h ≡ some x) × HasKeeper holders b x)) ⊎ ((n ≡ 1) × (h ≡ none))
 
@@ -37,7 +37,7 @@ pub record Claimed (holders : TableId) (s : State KeeperSlot Claimer) : Type 0 w
   -- a word and a slot for each bucket
   pub wide : length s.words ≡ buckets
   pub many : length s.homes ≡ buckets
-  -- what stands in each bucket
+  -- the word and the slot of each bucket
   pub each : (b : ℕ) (h : home.Option KeeperSlot) → get_elem? s.homes b ≡ some h → IsFreeOrTaken holders b (slice_index s.words b) h
   -- a word is the number of the views that claim its bucket
   pub claims : (b : ℕ) → b < buckets → sum_by (λ v. times b v.claims) s.views ≡ slice_index s.words b
@@ -60,14 +60,14 @@ HasClaimed bucket me = (me.1 ≡ (bucket, None) ∷ []) × (me.0.claims ≡ buck
 abbrev pub Names : Seat KeeperSlot Claimer → Seat KeeperSlot Claimer → Type 0
 Names old new = (new.table_id ≡ old.table_id) × (named new.me.0 ≡ named old.me.0)
 
--- where 0 was found, the bucket is claimed, and its keeper came along; else nothing changed
+-- if the word was 0, the seat has claimed the bucket and has its keeper; otherwise nothing changed
 abbrev pub takes_bucket : Step KeeperSlot → CMe → ℕ → CMe → Type 0
 takes_bucket st m n m' =
     (n ≡ 0 → (m'.0 ≡ claiming m.0 (st.word ∷ m.0.claims))
     × ((k : Keeper) × (m'.1 ≡ (st.word, Some k) ∷ m.1) × ((t : TableId) → named m.0 ≡ Some t → IsKeeper t st.word k)))
     × (¬ (n ≡ 0) → m' ≡ m)
 
--- the bucket is no longer claimed, and its keeper is at home
+-- the bucket is no longer claimed, and its keeper is in the slot again
 abbrev pub gives_bucket : Step KeeperSlot → CMe → ℕ → CMe → Type 0
 gives_bucket st m n m' = (m'.0 ≡ claiming m.0 []) × (m'.1 ≡ rest m.1)
 

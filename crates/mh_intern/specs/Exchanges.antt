@@ -1,4 +1,4 @@
--- What calls leave of a seat that hand holds back, take others, and ask for types.
+-- How a sequence of requests, copies and releases changes a seat.
 use Rattle.std.specs.Prelude.{◌≡◌, ℕ, ◌+◌, ◌≤◌, List, [], ◌∷◌, ◌++◌, length, map, Result, Ok, Err}
 use Rattle.std.specs.Global.{Vec}
 use Rattle.std.specs.List.{AllByRecursion}
@@ -29,12 +29,12 @@ pub record AreHeld (seat : SeatView) (holds : List HoldView) : Type 0 where
   pub tables : AreOf seat.table.holders holds
   pub held : HoldsAll seat.holds (entries_of holds)
 
--- the seat has the holds that came in the place of those that are gone, and was asked for no types but these
+-- The seat has the holds that came in place of those that are gone, and was asked for no types except these.
 pub record Exchanges (asks : List MethodTy) (gone came : List HoldView) (old new : SeatView) : Type 0 where
   pub table : new.table ≡ old.table
   pub traded : Trades old.holds (entries_of gone) (entries_of came) new.holds
   pub tables : AreOf new.table.holders came
-  -- holds and room are so many together as before
+  -- holds and room together are as many as before
   pub many : length new.holds + length gone ≡ length old.holds + length came
   pub room : new.room + length came ≡ old.room + length gone
   -- no other type was asked for, and what was known stays known

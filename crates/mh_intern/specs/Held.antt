@@ -11,7 +11,7 @@ use Rattle.mh_intern.specs.declared.holding.Holding.{Holding}
 use Rattle.mh_seats.specs.Room.{limit, times}
 use Rattle.mh_intern.specs.Buckets.{bucket_of, bucket_at, buckets, bucket_slots, slots}
 
--- how often a type stands in a list
+-- how often a type is in a list
 abbrev pub times_type : MethodTy → List MethodTy → ℕ
 times_type t ts = count_by (λ u. is_same_method_type u t) ts
 
@@ -35,7 +35,7 @@ weight v = v.room + length v.holds
 abbrev pub asks : MethodTy → Holding → ℕ
 asks t v = times_type t v.asked
 
--- how often a type stands in a view's list, as wanted, or in a full bucket
+-- how often a view uses a type: in its list, as the type of a request, or in a full bucket
 abbrev pub uses : MethodTy → Holding → ℕ
 uses t v = on_type t v.entries + times_type t v.wanted + sum_by (λ f. on_type t f.entries) v.full
 
@@ -67,11 +67,11 @@ pub record Held (s : State (Unit {0}) Holding) : Type 0 where
   -- no slot and no type has two entries
   pub slots : (k : ℕ) → sum_by (λ v. on_slot k v.entries) s.views ≤ 1
   pub types : (t : MethodTy) → sum_by (λ v. on_type t v.entries) s.views ≤ 1
-  -- what is no entry is held by nobody
+  -- nobody holds what is no entry
   pub held : (k : ℕ) (t : MethodTy) → sum_by (λ v. has k t v.entries) s.views ≡ 0 → sum_by (λ v. has k t v.holds) s.views ≡ 0
   -- a slot that was noted as zero is zero
   pub zeros : (k : ℕ) → 0 < sum_by (λ v. times k v.zeros) s.views → slice_index s.words k ≡ 0
-  -- a type that nobody asked for is used nowhere
+  -- no part uses a type that nobody asked for
   pub asked : (t : MethodTy) → sum_by (asks t) s.views ≡ 0 → sum_by (uses t) s.views ≡ 0
-  -- what is so of each view
+  -- what holds of each view
   pub each : (id : ℕ) (v : Holding) → get_elem? s.views id ≡ some v → Fits v

@@ -1,4 +1,4 @@
--- What a request leaves of a caller's view.
+-- How a request changes a caller's view.
 use Rattle.std.specs.Prelude.{◌≡◌, ◌-◌, ◌<◌, ◌∷◌, Result, Ok, Err}
 use Rattle.mh_values.specs.declared.types.MethodTy.{MethodTy}
 use Rattle.mh_intern.specs.declared.holding.Entry.{Entry}
@@ -43,7 +43,7 @@ pub record IsFullFor (t : MethodTy) (f : FullBucket) : Type 0 where
   pub bucket : f.bucket ≡ bucket_of t
   pub lacks : on_type t f.entries ≡ 0
 
--- what a request for a type leaves of a caller's view, by the answer
+-- how a request for a type changes a caller's view, by the answer
 abbrev pub Interned : MethodTy → Holding → Result Entry InternError → Holding → Type 0
 Interned t v (Ok e) w = (e.ty ≡ t) × (e.slot < slots) × (w ≡ granted e v)
 Interned t v (Err NoMemory) w = w ≡ v

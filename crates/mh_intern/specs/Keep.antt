@@ -1,11 +1,12 @@
--- A keeper that may lie in the slot of its bucket.
+-- A keeper that may be put into the slot of its bucket.
 use Rattle.std.specs.Prelude.{◌≡◌, ℕ, []}
 use Rattle.atomic_table.specs.Seated.{TableId}
 use Rattle.mh_intern.specs.declared.keeper.Keeper.{Keeper}
 use Rattle.mh_intern.specs.Lists.{Listed}
 use Rattle.mh_intern.specs.Kinds.{at_rest}
 
--- it is of these holders, at rest, of this bucket alone, and the list beside it is the one in its view, with slots and types of the bucket, each once
+-- It belongs to these holders, is at rest, and keeps this bucket alone. The list beside it is the one in its view, with slots and types of the bucket, each
+-- once.
 pub record IsKeeper (holders : TableId) (bucket : ℕ) (k : Keeper) : Type 0 where
   pub of : k.seat.table_id ≡ holders
   pub free : k.seat.me.1 ≡ []

@@ -1,4 +1,4 @@
--- What each kind of step of the table of holders leaves of a view.
+-- How each kind of step of the table of holders changes a view.
 use Rattle.std.specs.Prelude.{ℕ, zero, suc, ◌+◌, ◌-◌, ◌==◌, cond, List, [], ◌∷◌, ◌++◌, drop, slice_index}
 use Rattle.mh_values.specs.declared.types.MethodTy.{MethodTy}
 use Rattle.mh_intern.specs.declared.holding.Entry.{Entry}
@@ -45,8 +45,8 @@ abbrev pub nothing : Holding
 nothing = caller [] 0 [] []
 
 -- two views together
-abbrev pub joined : Holding → Holding → Holding
-joined v w = record {
+abbrev pub joined_views : Holding → Holding → Holding
+joined_views v w = record {
   holds = w.holds ++ v.holds;
   room = w.room + v.room;
   asked = w.asked ++ v.asked;

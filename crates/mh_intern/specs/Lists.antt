@@ -39,7 +39,7 @@ pub record Listed (b : ℕ) (es : List Entry) : Type 0 where
   pub one_slot : (k : ℕ) → on_slot k es ≤ 1
   pub one_type : (t : MethodTy) → on_type t es ≤ 1
 
--- what is looked for in a list: the entry of a type, or nothing where no entry has the type
+-- what is looked for in a list: the entry of a type, or nothing if no entry has the type
 abbrev pub FindsEntry : MethodTy → List Entry → Option Entry → Type 0
 FindsEntry t es None = on_type t es ≡ 0
 FindsEntry t es (Some e) = (e.ty ≡ t) × (0 < has e.slot e.ty es)

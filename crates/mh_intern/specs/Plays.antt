@@ -1,4 +1,4 @@
--- What each kind of step on a word of the table of holders tells.
+-- What each kind of step on a word of the table of holders says.
 use Rattle.std.specs.Prelude.{◌≡◌, ℕ, ◌<◌, ◌≤◌, List, All}
 use Rattle.atomic_table.specs.Table.{Me, Step}
 use Rattle.mh_values.specs.declared.types.MethodTy.{MethodTy}
@@ -42,6 +42,6 @@ pub record Looked (v w : Holding) : Type 0 where
   pub most : weight v ≤ limit
   pub asked : weight v ≡ limit → (t : MethodTy) → 0 < uses t v → 0 < asks t v
 
--- a look that tells what the rule says of the view
+-- a look, which says what the rule says of the view
 abbrev pub looks : Step (Unit {0}) → HMe → ℕ → HMe → Type 0
 looks _ m _ m' = Looked m.0 m'.0 × (m'.1 ≡ m.1)

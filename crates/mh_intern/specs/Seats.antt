@@ -18,36 +18,36 @@ pub record Holds (seat : SeatView) (hold : HoldView) : Type 0 where
   pub table : hold.table ≡ seat.table.holders
   pub counted : 0 < has hold.entry.slot hold.entry.ty seat.holds
 
--- where all other seats were joined, the seat asked for each type of the full buckets that it found
+-- if all other seats were joined to it, the seat asked for each type of the full buckets that it found
 abbrev pub AskedForFull : List Entry → ℕ → List MethodTy → List FullBucket → Type 0
 AskedForFull holds room asked full = room + length holds ≡ limit → (t : MethodTy) → 0 < sum_by (λ f. on_type t f.entries) full → 0 < times_type t asked
 
--- what is so of every seat
+-- what holds of every seat
 pub record IsSeated (holds : List Entry) (room : ℕ) (asked : List MethodTy) (full : List FullBucket) : Type 0 where
-  -- two of its holds have one slot exactly where they have one type
+  -- two of its holds have one slot if and only if they have one type
   pub agrees : Agrees holds
-  -- no hold is of a number that is no slot
+  -- each hold is of a slot of the table
   pub small : (k : ℕ) → slots ≤ k → on_slot k holds ≡ 0
-  -- it has room or holds, and all seats together have no more than there is
+  -- it has room or holds, and no more than all seats have together
   pub some_left : 1 ≤ room + length holds
   pub most : room + length holds ≤ limit
   -- its full buckets are full
   pub filled : All IsFull full
   pub known : AskedForFull holds room asked full
 
--- what a seat knows once it has looked at the table: its holds agree, wherever they came from; its full buckets are full; and where all other
--- seats were joined, it asked for each of their types
+-- What a seat knows once it has looked at the table. Its holds agree, even those that came by a join. Its full buckets are full. If all other seats were joined
+-- to it, it asked for each of their types.
 abbrev pub Knows : SeatView → Type 0
 Knows s = Agrees s.holds × All IsFull s.full × AskedForFull s.holds s.room s.asked s.full
 
--- what a call of `intern` leaves of its seat: a hold of the type; or nothing changed; or the type was asked for, and its bucket is full of others
+-- How a call of `intern` changes its seat: it adds a hold of the type, or nothing changed. Or the type was asked for, and its bucket is full of others.
 abbrev pub Interns : MethodTy → SeatView → Result HoldView InternError → SeatView → Type 0
 Interns t before (Ok h) after = (h.entry.ty ≡ t) × (after ≡ with_asked t (with_hold h.entry before))
 Interns t before (Err NoMemory) after = after ≡ before
 Interns t before (Err (TypesFull bucket)) after =
     (bucket ≡ bucket_of t) × ((f : FullBucket) × IsFullFor t f × (after ≡ with_asked t (with_full f before)))
 
--- each of these holds that is of the type has the slot of this one: an entry is not replaced while it is held
+-- each of these holds of the type has the slot of this one, because an entry is not replaced while it is held
 abbrev pub KeepsSlot : MethodTy → List Entry → HoldView → Type 0
 KeepsSlot t holds hold = (k : ℕ) → 0 < has k t holds → hold.entry.slot ≡ k
 

@@ -1,4 +1,4 @@
--- Seats of the two tables, and what a step leaves of them.
+-- Seats of the two tables, and how a step changes them.
 use Rattle.std.specs.Prelude.{◌≡◌, ℕ, ◌+◌, ◌≤◌, List, length}
 use Rattle.atomic_table.specs.Seated.{TableId}
 use Rattle.mh_intern.specs.declared.holding.Entry.{Entry}
@@ -20,6 +20,6 @@ IsOfHolders seat table = (seat ≡ table) × (table.words ≡ slots)
 abbrev pub IsOfClaims : TableId → TableId → Type 0
 IsOfClaims seat table = (seat ≡ table) × (table.words ≡ buckets) × (table.slots ≡ buckets)
 
--- a request takes one room along, and something is left
+-- a request takes one room with it, and some room is left
 abbrev pub MayAsk : ℕ → List Entry → Type 0
 MayAsk room holds = (1 ≤ room) × (2 ≤ room + length holds)

@@ -1,4 +1,4 @@
--- One list of holds for another, whatever the order.
+-- Some holds of a list exchanged for others, in any order.
 use Rattle.std.specs.Prelude.{◌≡◌, ℕ, ◌+◌, ◌≤◌, List, [], ◌∷◌, Result, Ok, Err}
 use Rattle.mh_values.specs.declared.types.MethodTy.{MethodTy}
 use Rattle.mh_intern.specs.declared.error.InternError.{InternError}

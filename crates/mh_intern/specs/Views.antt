@@ -48,15 +48,15 @@ with_hold e s = record { table = s.table; holds = e ∷ s.holds; room = s.room -
 abbrev pub without_hold : Entry → SeatView → SeatView
 without_hold e s = record { table = s.table; holds = removed e s.holds; room = s.room + 1; asked = s.asked; full = s.full }
 
--- the seat with so much less room
+-- the seat with this much less room
 abbrev pub with_less_room : ℕ → SeatView → SeatView
 with_less_room room s = record { table = s.table; holds = s.holds; room = s.room - room; asked = s.asked; full = s.full }
 
--- the seat has asked for a type too
+-- the seat, after it has asked for a type
 abbrev pub with_asked : MethodTy → SeatView → SeatView
 with_asked t s = record { table = s.table; holds = s.holds; room = s.room; asked = t ∷ s.asked; full = s.full }
 
--- the seat has found a full bucket too
+-- the seat, after it has found a full bucket
 abbrev pub with_full : FullBucket → SeatView → SeatView
 with_full f s = record { table = s.table; holds = s.holds; room = s.room; asked = s.asked; full = f ∷ s.full }
 

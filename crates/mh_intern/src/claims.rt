@@ -1,5 +1,5 @@
-// The table of claims: a word and a slot for each bucket. The keeper of a bucket lies in its slot,
-// and goes with whoever claims the bucket.
+// The table of claims: a word and a slot for each bucket. The keeper of a bucket is in its slot, or
+// with the seat that claims the bucket.
 ghost use Rattle.std.specs.Prelude.{◌≡◌, ℕ, ◌<◌, [], ◌∷◌, length, MatchOption, Some, None, IfOk};
 ghost use lib.ListN.{get_elem?};
 ghost use mathlib.Core.Option.{some};
@@ -25,7 +25,7 @@ pub(crate) struct Rule;
 /// The table of holders whose keepers these are, by one of its seats.
 pub(crate) type Named = Snapshot<Place>;
 
-/// The table of claims: a word for each bucket, 1 where it is claimed, and its keeper.
+/// The table of claims: a word for each bucket, 1 if it is claimed, and its keeper.
 pub(crate) type Claims = Table<Option<Keeper>, Claimer, Named, Rule, Global>;
 
 /// The steps of a table of claims.
@@ -47,7 +47,7 @@ impl Play<Option<Keeper>, Claimer> for Taking {
     ghost then = { takes_bucket };
 }
 
-/// A store that lets a bucket go.
+/// A store that gives a bucket back.
 pub(crate) struct PuttingBack;
 
 impl Play<Option<Keeper>, Claimer> for PuttingBack {
@@ -127,7 +127,7 @@ pub(crate) fn claim<R: Wait>(rt: &R, steps: &Steps, seat: &mut ClaimSeat, bucket
     unreachable!()
 }
 
-/// The keeper lies in its slot again, and then the bucket is free.
+/// Puts the keeper into its slot again, and then frees the bucket.
 pub(crate) fn put_back(steps: &Steps, seat: &mut ClaimSeat, bucket: u32, keeper: Keeper)
     requires seat { IsOfClaims seat.old.table_id steps.now.table_id }
     requires claimed { HasClaimed bucket seat.old.me }

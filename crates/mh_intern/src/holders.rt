@@ -8,7 +8,7 @@ ghost use Rattle.mh_intern.specs.Buckets.{bucket_of, bucket_at, slots};
 ghost use Rattle.mh_intern.specs.Held.{on_type, has, weight, asks, uses, IsFull};
 ghost use Rattle.mh_seats.specs.Room.{limit, times};
 ghost use Rattle.mh_intern.specs.Lists.{Places, Agrees};
-ghost use Rattle.mh_intern.specs.Kinds.{caller, joined, first, without_first, first_keeper, less_room, after_request, request, after_reply, reply, full_bucket, refusal, held_more, held_less, after_raise};
+ghost use Rattle.mh_intern.specs.Kinds.{caller, joined_views, first, without_first, first_keeper, less_room, after_request, request, after_reply, reply, full_bucket, refusal, held_more, held_less, after_raise};
 ghost use Rattle.mh_intern.specs.Plays.{WasRead};
 ghost use Rattle.mh_intern.specs.Steps.{IsOfHolders, MayAsk, IsTableOfHolders};
 
@@ -55,11 +55,11 @@ pub(crate) fn split_room<P: Part>(steps: &Steps, seat: &mut Place, room: u64) ->
     steps.split_seat::<SplittingRoom<P>>(seat)
 }
 
-/// The seat has all that the two had.
+/// The seat, with all that the two had.
 pub(crate) fn join(steps: &Steps, seat: &mut Place, other: Place)
     requires seat { IsOfHolders seat.old.table_id steps.now.table_id }
     requires other { (other.table_id ≡ steps.now.table_id) × (other.me.1 ≡ []) }
-    ensures { Moves (λ v. joined v other.me.0) seat.old seat.new }
+    ensures { Moves (λ v. joined_views v other.me.0) seat.old seat.new }
 {
     steps.join_seat::<Joining>(seat, other);
 }
@@ -100,7 +100,7 @@ pub(crate) fn lower<O: Operand>(steps: &Steps, seat: &mut Place, hold: &Entry)
     steps.fetch_sub::<Releasing<O>>(seat, hold.slot as usize, 1);
 }
 
-/// A request of a caller for a type, which takes one room along.
+/// A request of a caller for a type, which takes one room with it.
 pub(crate) fn request<W: Wanted>(steps: &Steps, seat: &mut Place, ty: &MethodTy) -> Place
     requires seat { IsOfHolders seat.old.table_id steps.now.table_id }
     requires pick { W.wanted ≡ ty.now }

@@ -12,8 +12,8 @@ pub struct Entry {
 }
 
 impl Entry {
-    /// The same type in the same slot. It takes no memory, and fails only where 2^63 owners of the
-    /// type are counted.
+    /// A copy: the same type in the same slot. It takes no memory, and fails only if 2^63 owners of
+    /// the type are counted.
     pub(crate) fn share(&self) -> Result<Entry, NoMemory>
         ensures { IfOk result (λ copy. copy ≡ self.now) }
     {

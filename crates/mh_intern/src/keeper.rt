@@ -14,7 +14,7 @@ use mh_base::NoMemory;
 use std::alloc::Global;
 use std::collections::LinkedList;
 
-/// A seat of the table of holders that keeps one bucket, beside the list that its view has.
+/// A seat of the table of holders that keeps one bucket, and the list that its view has.
 #[derive(Drop)]
 pub struct Keeper {
     pub(crate) seat: Place,

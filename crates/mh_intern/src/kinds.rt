@@ -4,7 +4,7 @@ ghost use Rattle.mh_values.specs.declared.types.MethodTy.{MethodTy};
 ghost use Rattle.mh_intern.specs.declared.holding.Entry.{Entry};
 ghost use Rattle.mh_intern.specs.Held.{Held};
 ghost use Rattle.mh_intern.specs.Lists.{entry};
-ghost use Rattle.mh_intern.specs.Kinds.{caller, joined, nothing, first, without_first, first_keeper, less_room, after_request, request, after_reply, reply, refusal};
+ghost use Rattle.mh_intern.specs.Kinds.{caller, joined_views, nothing, first, without_first, first_keeper, less_room, after_request, request, after_reply, reply, refusal};
 ghost use Rattle.mh_intern.specs.Plays.{dups, releases, reads, raises, looks};
 
 use crate::holding::{Entry, Holding};
@@ -35,7 +35,7 @@ impl TableRule<(), Holding, ()> for Rule {
 pub(crate) struct Joining;
 
 impl Join<Holding> for Joining {
-    ghost both = { joined };
+    ghost both = { joined_views };
 
     ghost spent = { nothing };
 }
@@ -154,7 +154,7 @@ impl Play<(), Holding> for Reading {
     ghost then = { reads };
 }
 
-/// A read that changes nothing, and tells what the rule says of the seat.
+/// A read that changes nothing, and shows what the rule says of the seat.
 pub(crate) struct Looking;
 
 impl Play<(), Holding> for Looking {

@@ -1,5 +1,6 @@
 //! Method types that threads share: each type that is held has one slot of a table, and the slot
-//! counts its holds. A slot that nobody holds is given to another type. No call but `intern` waits.
+//! counts its holds. A slot that nobody holds is given to another type. No call except `intern`
+//! waits.
 #![tactic(auto)]
 
 mod bucket;

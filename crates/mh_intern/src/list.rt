@@ -22,7 +22,7 @@ fn place_of_slot(entries: &[Entry], slot: u32) -> Option<usize>
     entries.iter().position(|entry| entry.slot == slot)
 }
 
-/// The entry of a type. It takes no memory, and fails only where 2^63 owners are counted.
+/// The entry of a type. It takes no memory, and fails only if 2^63 owners are counted.
 pub(crate) fn entry_of(entries: &[Entry], ty: &MethodTy) -> Result<Option<Entry>, NoMemory>
     ensures { IfOk result (FindsEntry ty.now entries.now) }
 {

@@ -21,7 +21,7 @@ impl TypeTable {
         }
     }
 
-    /// One hold more of each of these types, which takes one room for each. Where memory is short no
+    /// One hold more of each of these types, which takes one room for each. If memory runs out, no
     /// hold is taken. It does not wait.
     pub fn dup_all(
         &self,

@@ -5,7 +5,7 @@ ghost use Rattle.mh_intern.specs.Buckets.{bucket_of, bucket_at, buckets, slots};
 ghost use Rattle.mh_intern.specs.Held.{on_type, has, IsFull};
 ghost use Rattle.mh_seats.specs.Room.{times};
 ghost use Rattle.mh_intern.specs.Lists.{Listed};
-ghost use Rattle.mh_intern.specs.Kinds.{with_notes, full_bucket, joined, after_request, request, after_reply, reply, refusal};
+ghost use Rattle.mh_intern.specs.Kinds.{with_notes, full_bucket, joined_views, after_request, request, after_reply, reply, refusal};
 ghost use Rattle.mh_intern.specs.Keep.{IsKeeper};
 ghost use Rattle.mh_intern.specs.Interning.{granted, Interned};
 ghost use Rattle.mh_intern.specs.Steps.{IsOfHolders, MayAsk};
@@ -46,7 +46,7 @@ struct NewType {
     entry: Shared<MethodTy>,
 }
 
-/// The first slot of a bucket whose word is zero. Where there is none, the bucket is full.
+/// The first slot of a bucket whose word is zero. If there is none, the bucket is full.
 fn find_zero(steps: &Steps, seat: &mut Place, bucket: u32) -> Option<u32>
     requires seat { IsOfHolders seat.old.table_id steps.now.table_id }
     requires bucket { (bucket < buckets) × (seat.old.me.0.keeps ≡ bucket ∷ []) }
@@ -71,7 +71,7 @@ fn send_request(steps: &Steps, keeper: &mut Place, caller: &mut Place, ty: &Meth
     requires keeper { keeper.old.table_id ≡ steps.now.table_id }
     requires caller { IsOfHolders caller.old.table_id steps.now.table_id }
     requires room { MayAsk caller.old.me.0.room caller.old.me.0.holds }
-    ensures keeper { Moves (λ v. joined v (request ty.now)) keeper.old keeper.new }
+    ensures keeper { Moves (λ v. joined_views v (request ty.now)) keeper.old keeper.new }
     ensures caller { Moves (after_request ty.now) caller.old caller.new }
 {
     let note = holders::request::<Brand>(steps, caller, ty);
@@ -84,7 +84,7 @@ fn send_reply(steps: &Steps, keeper: &mut Place, caller: &mut Place)
     requires caller { IsOfHolders caller.old.table_id steps.now.table_id }
     requires quiet { keeper.old.me.0.asked ≡ [] }
     ensures keeper { Moves after_reply keeper.old keeper.new }
-    ensures caller { Moves (λ v. joined v (reply keeper.old.me.0)) caller.old caller.new }
+    ensures caller { Moves (λ v. joined_views v (reply keeper.old.me.0)) caller.old caller.new }
 {
     let note = holders::reply(steps, keeper);
     holders::join(steps, caller, note);
@@ -97,7 +97,7 @@ fn send_refusal(steps: &Steps, keeper: &mut Place, caller: &mut Place)
     requires quiet { keeper.old.me.0.asked ≡ [] }
     requires full { IsFull (full_bucket keeper.old.me.0) }
     ensures keeper { Moves after_reply keeper.old keeper.new }
-    ensures caller { Moves (λ v. joined v (refusal keeper.old.me.0)) caller.old caller.new }
+    ensures caller { Moves (λ v. joined_views v (refusal keeper.old.me.0)) caller.old caller.new }
 {
     let note = holders::refuse(steps, keeper);
     holders::join(steps, caller, note);
@@ -167,7 +167,7 @@ fn serve_new(
     }
 }
 
-/// What a keeper of the type's bucket answers to a caller that asks for the type. Where no memory
+/// What a keeper of the type's bucket answers to a caller that asks for the type. If no memory
 /// is left, nothing has changed.
 pub(crate) fn serve(
     alloc: Global,

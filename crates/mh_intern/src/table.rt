@@ -48,7 +48,7 @@ impl Model for TypeTable {
 }
 
 impl TypeTable {
-    /// A table with no type, and the first seat, which has all the room: 2^62. It fails only where
+    /// A table with no type, and the first seat, which has all the room: 2^62. It fails only if
     /// no memory is left.
     pub fn new(alloc: Global) -> Result<(TypeTable, TypeSeat), NoMemory>
         ensures { IfOk result (λ t. t.1 ≡ new_seat t.0 limit) }
@@ -60,7 +60,7 @@ impl TypeTable {
     }
 
     /// How many slots the seat holds, which are as many as the types that it holds. The seat's room
-    /// and its holds are 2^62 together exactly where all other seats were joined.
+    /// and its holds together are 2^62 if and only if all other seats were joined to it.
     pub fn close(self, seat: TypeSeat) -> u32
         requires seat { seat.table ≡ self }
         requires whole { seat.room + length seat.holds ≡ limit }
@@ -72,14 +72,14 @@ impl TypeTable {
         holders::slots_in_use(holders.close_with(caller))
     }
 
-    /// A hold of a type, which takes one room. Where the seat holds the type already, it is of the
+    /// A hold of a type, which takes one room. If the seat holds the type already, it is of the
     /// slot that the seat holds. The seat has room, and room and holds of 2 or more together, since
-    /// the request takes one room along.
+    /// the request takes one room with it.
     ///
-    /// It waits while another thread asks for a type of the same bucket. `TypesFull` comes where
-    /// each of the 32 slots of the bucket has another type and was read as held in this call. A
-    /// type that has a slot takes no memory; else, where none is left, `NoMemory` comes and nothing
-    /// has changed.
+    /// It waits while another thread asks for a type of the same bucket. The answer is `TypesFull`
+    /// if each of the 32 slots of the bucket has another type and was read as held in this call. A
+    /// type that has a slot takes no memory. Otherwise, if none is left, the answer is `NoMemory`
+    /// and nothing has changed.
     pub fn intern<R: Wait>(
         &self,
         rt: &R,
@@ -105,7 +105,7 @@ impl TypeTable {
         held_of(answer, &seat.caller)
     }
 
-    /// One hold more of the same type, which takes one room and no memory: it fails only where 2^63
+    /// One hold more of the same type, which takes one room and no memory: it fails only if 2^63
     /// owners of the type are counted. It does not wait.
     pub fn dup(
         &self,
@@ -136,8 +136,8 @@ impl TypeTable {
         holders::lower::<Brand>(&self.holders.shared, &mut seat.caller, &held.entry);
     }
 
-    /// Whether two holds of the seat are of one type. It compares their slots, takes no memory and
-    /// does not wait.
+    /// Whether two holds of the seat are of the same type. It compares their slots, takes no memory
+    /// and does not wait.
     pub fn same(&self, seat: &TypeSeat, a: &HeldType, b: &HeldType) -> bool
         requires seat { seat.now.table ≡ self.now }
         requires holds { Holds seat.now a.now × Holds seat.now b.now }

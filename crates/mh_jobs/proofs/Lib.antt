@@ -8,6 +8,7 @@ pub mod Parted
 pub mod Parts
 pub mod ReadOnce
 pub mod Recorded
+mod ScriptOwners
 pub mod Telling
 mod WorkedArguments
 mod WorkedConstants

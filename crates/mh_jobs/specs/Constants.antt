@@ -23,7 +23,7 @@ const_script classes scripts h = do
   require (h.kind == 6) (unsupported (codes "constant"))
   script_of as_shown classes scripts (method_of h)
 
--- the type that a text means, or what is thrown where it means none
+-- the type that a text means, or what is thrown if it means none
 abbrev pub one_type : List ℕ → Result Ty DescriptorError → OrThrown Ty
 one_type text (Ok t) = Ok t
 one_type text (Err error) = Err (no_one_type text error)

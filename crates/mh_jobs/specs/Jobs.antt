@@ -10,7 +10,7 @@ use Rattle.mh_script.specs.declared.script.Script.{Script}
 use Rattle.mh_jobs.specs.declared.job.Job.{Job}
 use Rattle.mh_jobs.specs.Sites.{site_job}
 
--- the jobs of call sites of a class, numbered from a number on, where so many dynamic constants stand in the classes before
+-- the jobs of call sites of a class, numbered from a number on, if the classes before have this many dynamic constants
 abbrev pub jobs_from : LeafTable → List Script → class_file.Class → ℕ → ℕ → List SiteView → List Job
 jobs_from leaves scripts class first number [] = []
 jobs_from leaves scripts class first number (site ∷ sites) =
@@ -28,10 +28,10 @@ HasMore before jobs = (more : List Job) × (jobs ≡ before ++ more)
 abbrev pub AreInPlace : List Job → Type 0
 AreInPlace jobs = (k : ℕ) (job : Job) → slice_get jobs k ≡ Some job → job.site ≡ k
 
--- the type of a call site, where it is readable
+-- the type of a call site, if it can be read
 abbrev pub type_at : List Job → ℕ → Option MethodTy
 type_at jobs site = option_and_then (λ job. job.ty) (slice_get jobs site)
 
--- the types of the arguments that a call of a site takes; it takes none where the site's type is not readable
+-- the types of the arguments that a call of a site takes; it takes none if the site's type cannot be read
 abbrev pub params_at : List Job → ℕ → List Ty
 params_at jobs site = option_map_or (λ t. t.params) (type_at jobs site) []

@@ -1,4 +1,4 @@
--- What names mean: classes, types, leaves and scripts, or what is thrown where they mean nothing (JVMS SE 17, 5.4.3.1, 5.4.3.3 and 5.4.3.5).
+-- What names mean: classes, types, leaves and scripts, or what is thrown if they mean nothing (JVMS SE 17, 5.4.3.1, 5.4.3.3 and 5.4.3.5).
 use Rattle.std.specs.Prelude.{ℕ, Bool, ◌||◌, ◌&&◌, List, ◌++◌, codes, is_some, Result, Ok, Err, ok_or}
 use Rattle.std.specs.Str.{bytes_eq}
 use Rattle.mh_values.specs.declared.class.Class.{Class}
@@ -27,7 +27,7 @@ use Rattle.mh_jobs.specs.Thrown.{OrThrown, Says, ◌>>◌, require, no_class, no
 abbrev pub class_of : Says → List Class → List ℕ → OrThrown ClassId
 class_of says classes name = ok_or (class_named classes name) (no_class says name)
 
--- what a text means, or what is thrown where it means nothing
+-- what a text means, or what is thrown if it means nothing
 abbrev pub meaning : {A : Type 0} → Says → List ℕ → Result A DescriptorError → OrThrown A
 meaning says text (Ok a) = Ok a
 meaning says text (Err error) = Err (no_type says text error)
@@ -46,7 +46,7 @@ method_type_of_text says classes text = meaning says text (desc classes text)
 
 -- ---- leaves
 
--- what is thrown where no leaf has this name: its class is missing, or the method alone
+-- what is thrown if no leaf has this name: its class is missing, or the method alone
 abbrev pub missing : Says → MethodName → Missing → Exc
 missing says m NoClass = no_class says m.owner
 missing says m NoMethod = no_method says m

@@ -1,4 +1,4 @@
--- The static arguments of a bootstrap method, of which some may be dynamic constants (JVMS SE 17, 4.4.10 and 5.4.3.6).
+-- The static arguments of a bootstrap method, some of which may be dynamic constants (JVMS SE 17, 4.4.10 and 5.4.3.6).
 use Rattle.std.specs.Prelude.{◌≡◌, ℕ, ◌+◌, List, [], ◌∷◌, ◌++◌, length, slice_get, Option, None, Some, Ok, Err, option_to_list}
 use Rattle.mh_leaf.specs.LeafTable.{LeafTable}
 use Rattle.mh_classfile.specs.declared.constant.Constant.{Constant}
@@ -12,7 +12,7 @@ use Rattle.mh_jobs.specs.declared.unresolved.StaticArguments.{StaticArguments}
 use Rattle.mh_jobs.specs.Job.{argument_of, constants_at}
 use Rattle.mh_jobs.specs.Thrown.{OrThrown, ◌>>=◌}
 
--- the number in the run of the dynamic constant that a constant of a class is, where so many stand in the classes before; none of another constant
+-- the number in the run of a dynamic constant of a class, if the classes before have this many; another constant has none
 abbrev pub named_constant : class_file.Class → ℕ → Constant → Option ℕ
 named_constant class first (constant.Dynamic d) = Some (first + class_file.number_of class d.index)
 named_constant class first _ = None

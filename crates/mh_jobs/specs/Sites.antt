@@ -20,7 +20,7 @@ site_bootstrap leaves scripts class first site = do
   name ← text_of site.name
   Ok (record { method = method; name = name; ty = t; arguments = static_arguments leaves class first bootstrap.arguments })
 
--- the job of a call site of a class, which has a number in the run, where so many dynamic constants stand in the classes before
+-- the job of a call site of a class, which has a number in the run, if the classes before have this many dynamic constants
 abbrev pub site_job : LeafTable → List Script → class_file.Class → ℕ → ℕ → SiteView → Job
 site_job leaves scripts class first number site = record {
   site = number;

@@ -23,13 +23,13 @@ abbrev pub ◌>>=◌ : {A B : Type 0} → OrThrown A → (A → OrThrown B) → 
 (Ok a) >>= next = next a
 (Err e) >>= next = Err e
 
--- nothing, where the condition holds; else what is thrown
+-- nothing if the condition holds, and otherwise what is thrown
 abbrev pub require : Bool → Exc → OrThrown (Unit {0})
 require true e = Ok tt
 require false e = Err e
 
 infixl 10 ◌>>◌
--- goes on where nothing is thrown
+-- goes on if nothing is thrown
 abbrev pub ◌>>◌ : {A : Type 0} → OrThrown (Unit {0}) → OrThrown A → OrThrown A
 (Ok u) >> next = next
 (Err e) >> next = Err e
@@ -92,8 +92,8 @@ no_method says m = saying no_such_method_class (method_text says m)
 abbrev pub unsupported : List ℕ → Exc
 unsupported word = saying unsupported_class word
 
--- a descriptor that has no type: it names an unknown class, or a type that is left out, whichever stands first;
--- a text that is no descriptor is the name of no class
+-- What is thrown for a descriptor without a type. It names an unknown class or a type that `mh` lacks, whichever comes first. A text that is no descriptor
+-- counts as the name of an unknown class.
 abbrev pub no_type : Says → List ℕ → DescriptorError → Exc
 no_type says text (descriptor.NoClass at len) = no_class says (take len (drop at text))
 no_type says text (descriptor.Unsupported at) = unsupported (codes "type")
@@ -110,6 +110,6 @@ no_one_type text _ = unsupported (codes "type")
 abbrev pub caused : Exc → Exc
 caused e = record { class = bootstrap_method_error_class; message = []; cause = Some (record { class = e.class; message = e.message }) }
 
--- what is recorded of an exception: itself, where it is an Error, and else a BootstrapMethodError that it caused (JVMS SE 17, 5.4.3.6)
+-- what is recorded of an exception: itself if it is an Error, and otherwise a BootstrapMethodError with it as the cause (JVMS SE 17, 5.4.3.6)
 abbrev pub recorded : List Class → Exc → Exc
 recorded classes e = if is_subclass classes e.class error_class then e else caused e

@@ -31,8 +31,8 @@ pub struct ConstBootstrap {
 pub struct ConstJob {
     /// The number of the constant in the run.
     pub number: u32,
-    /// All dynamic constants among the static arguments of its bootstrap method, also where the
-    /// rest cannot be resolved.
+    /// All dynamic constants among the static arguments of its bootstrap method, even if the rest
+    /// cannot be resolved.
     pub names: Frozen<u32>,
     /// The call of the script, or what is thrown in its place.
     pub call: Result<ConstBootstrap, Exc>,
@@ -63,7 +63,7 @@ fn const_type(alloc: Global, classes: &Classes, text: &[u8]) -> Result<Ty, Resol
     }
 }
 
-/// What a Dynamic entry calls, where what is read of its static arguments is at hand.
+/// What a Dynamic entry calls, given what is read of its static arguments.
 fn const_call(
     alloc: Global,
     from: &Numbering<'_, '_>,
@@ -131,11 +131,11 @@ pub(crate) fn const_job(
     })
 }
 
-/// The job of a class's Dynamic entry `d`, where the classes before it have `first` dynamic
-/// constants; so its number in the run is `first` and `d` together. The script that gives its value
-/// is named by an `invokestatic` handle, or the first of what is wrong is kept in its place, in the
-/// order handle, type and name (JVMS SE 17, 5.4.3.6). The exceptions and their messages are those of
-/// [`crate::job_of`], except that a text that is no type, and a type that is left out, are
+/// The job of a class's Dynamic entry `d`, if the classes before it have `first` dynamic constants;
+/// so its number in the run is `first` and `d` together. An `invokestatic` handle names the script
+/// that gives its value. If something is wrong, the first such thing is kept in its place, in the
+/// order handle, type and name (JVMS SE 17, 5.4.3.6). The exceptions and their messages are those
+/// of [`crate::job_of`], except that a text that is no type, and a type that is left out, are
 /// `UnsupportedOperationException` with the message `type`. Static arguments are read up to the
 /// first that is refused, whose exception is kept with them.
 pub fn const_job_of(

@@ -58,7 +58,7 @@ pub struct BootstrapCall {
 pub struct Job {
     /// The number of the site in the run.
     pub site: u32,
-    /// The site's type, where it can be read, also where the rest cannot be resolved.
+    /// The site's type, if it can be read, even if the rest cannot be resolved.
     pub ty: Option<Shared<MethodTy>>,
     /// The bootstrap method and its parts, or what is thrown in their place.
     pub call: Result<Bootstrap, Exc>,
@@ -72,8 +72,8 @@ impl Job {
         self.site
     }
 
-    /// The site's type. There is none exactly where the descriptor names an unknown class or a
-    /// type that is left out.
+    /// The site's type. There is none if and only if the descriptor names an unknown class or a
+    /// type that `mh` lacks.
     pub fn ty(&self) -> Option<&MethodTy>
         ensures { option_copied result ≡ self.now.ty }
     {

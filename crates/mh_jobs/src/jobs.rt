@@ -31,7 +31,7 @@ impl Model for Jobs {
     ghost invariant = { λ j. AreInPlace j.jobs };
 }
 
-/// The number of a call site after so many others.
+/// The number of a call site after this many others.
 fn next_number(count: usize) -> Result<u32, NoMemory>
     ensures { IfOk result (λ number. number ≡ count) }
 {

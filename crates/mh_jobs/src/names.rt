@@ -106,11 +106,12 @@ pub(crate) fn script_of(
         (script_of as_shown classes.now scripts.now (method_of method.now)) }
 {
     let owner = method.owner.bytes();
+    // The owner of a script that is found is known.
+    if let Some(script) = scripts.find(owner, method.name.bytes(), method.descriptor.bytes()) {
+        return Ok(script);
+    }
     if !is_known_owner(classes, scripts, owner) {
         return Err(no_class(alloc, owner));
     }
-    match scripts.find(owner, method.name.bytes(), method.descriptor.bytes()) {
-        Some(script) => Ok(script),
-        None => Err(no_method(alloc, method)),
-    }
+    Err(no_method(alloc, method))
 }

@@ -4,8 +4,8 @@ ghost use Rattle.mh_jobs.specs.Given.{Given};
 use std::marker::Brand;
 
 /// Names what a run is given, in contracts. What a run links has a parameter of this trait, so that
-/// its type says of which run it is; whoever has the jobs, the scripts and the leaves at hand picks
-/// it by calling at [`Brand`].
+/// its type names its run. Whoever has the jobs, the scripts and the leaves picks it by calling at
+/// [`Brand`].
 pub trait Run {
     ghost given: { Given };
 }

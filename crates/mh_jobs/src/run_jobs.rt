@@ -36,7 +36,7 @@ impl RunJobs {
     }
 }
 
-/// The number of the first constant after so many others, if it and so many more have numbers.
+/// The number of the first constant after `count` others, if it and `more` others have numbers.
 fn first_number(count: usize, more: u16) -> Result<u32, NoMemory>
     ensures { IfOk result (λ first. (first ≡ count) × (first + more < 2 ^ 32)) }
 {
@@ -51,8 +51,8 @@ fn first_number(count: usize, more: u16) -> Result<u32, NoMemory>
 /// each numbered on. Equal descriptors of the class are read once, and so are the static arguments of
 /// each bootstrap method.
 ///
-/// A call site or a constant that no `u32` can number is want of memory. If memory runs out, the jobs
-/// are those before, and some of the class's after them.
+/// A call site or a constant that no `u32` can number counts as lack of memory. If memory runs out,
+/// the jobs are those before, and some of the class's after them.
 #[tactic(auto, using(crate::proofs::Numbering::more_classes))]
 pub fn push_class(
     alloc: Global,

@@ -55,7 +55,7 @@ fn bootstrap_method(
     Ok(Method::Script(script))
 }
 
-/// A type that was read, once more.
+/// A copy of a type that was read.
 fn shared(alloc: Global, ty: &TypeOrThrown) -> Result<Shared<MethodTy>, ResolutionError>
     ensures { TellsResolved result ty.now }
 {
@@ -65,7 +65,7 @@ fn shared(alloc: Global, ty: &TypeOrThrown) -> Result<Shared<MethodTy>, Resoluti
     }
 }
 
-/// What a call site of a type calls, where what is read of its static arguments is at hand.
+/// What a call site of a type calls, given what is read of its static arguments.
 fn site_bootstrap(
     alloc: Global,
     from: &Numbering<'_, '_>,

@@ -62,7 +62,7 @@ fn no_method_exc(alloc: Global, method: &HandleRef<'_>) -> Result<Exc, NoMemory>
     saying(alloc, ClassId::NO_SUCH_METHOD, message)
 }
 
-/// An exception that was made to be thrown, or the want of memory for it.
+/// An exception that was made to be thrown, or lack of memory for it.
 fn thrown(made: Result<Exc, NoMemory>) -> ResolutionError
     ensures { result ≡ error_of made }
 {

@@ -39,7 +39,7 @@ pub(crate) fn read_type(
     }
 }
 
-/// What was read, once more: it is shared.
+/// A copy of what was read, which is shared.
 fn again(alloc: Global, ty: &TypeOrThrown) -> Result<TypeOrThrown, NoMemory>
     ensures { IfOk result (λ copy. copy ≡ ty.now) }
 {

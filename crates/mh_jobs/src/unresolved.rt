@@ -151,7 +151,7 @@ fn entry_of(alloc: Global, from: &Numbering<'_, '_>, bootstrap: u16) -> Result<E
     })
 }
 
-/// What is read where there are no static arguments.
+/// What is read if there are no static arguments.
 fn no_entry() -> Entry
     ensures { result ≡ record { arguments = record { parts = []; thrown = None }; names = [] } }
 {

@@ -18,7 +18,7 @@ ended_by (Gave a calls) n on_result on_exception = after calls (on_result a (rai
 ended_by (Threw e calls) n on_result on_exception = after calls (rethrown e (on_exception e (raised n calls)))
 ended_by Stuck n on_result on_exception = Stuck
 
--- so many turns, each on its number and on what the turn before gave; the numbers go up by one
+-- this many turns, each on its number and on what the turn before gave; the numbers go up by one
 abbrev pub turned : {A : Type 0} → (ℕ → A → ℕ → Ran A) → ℕ → ℕ → A → ℕ → Ran A
 turned body number zero a n = Gave a []
 turned body number (suc left) a n = and_then (body number a n) n (λ b k. turned body (suc number) left b k)

@@ -39,7 +39,7 @@ long n = returned (value.Prim (num.J n))
 abbrev pub boolean : Bool → Outcome
 boolean b = returned (value.Prim (num.Z b))
 
--- the quotient, cut toward zero; the least int by -1 is itself, and 0 divides nothing
+-- the quotient, rounded toward zero, or ArithmeticException for a division by 0; the least int divided by -1 is itself
 abbrev pub divided : ℤ → ℤ → Outcome
 divided a (pos zero) = Throw (saying arithmetic_class (codes "/ by zero"))
 divided a b = int (int_wrapping_div w32 a b)
@@ -105,13 +105,13 @@ abbrev pub first_value : List Value → Option Value
 first_value (v ∷ w ∷ vs) = Some v
 first_value _ = None
 
--- the second argument where the first is true, the third where it is false
+-- the second argument if the first is true, the third if it is false
 abbrev pub picked_value : List Value → Option Value
 picked_value (value.Prim (num.Z true) ∷ v ∷ w ∷ []) = Some v
 picked_value (value.Prim (num.Z false) ∷ v ∷ w ∷ []) = Some w
 picked_value _ = None
 
--- what a leaf of a kind does with these arguments, where n leaf calls were made before; nothing is said where it cannot have them
+-- what a leaf of a kind does with these arguments, after n earlier leaf calls; nothing is said if it cannot have them
 abbrev pub kind_on : Kind → List Value → ℕ → Option Outcome
 kind_on kind.Iadd args n = option_map (λ p. int (int_wrap w32 (p.0 +ℤ p.1))) (two_ints args)
 kind_on kind.Isub args n = option_map (λ p. int (int_wrap w32 (p.0 -ℤ p.1))) (two_ints args)
@@ -135,11 +135,11 @@ abbrev pub lacks_receiver : Leaf → List Value → Bool
 lacks_receiver leaf (value.Null ∷ vs) = leaf.is_virtual
 lacks_receiver leaf _ = false
 
--- what a leaf does with these arguments, where n leaf calls were made before; a virtual one does not run on null
+-- what a leaf does with these arguments, after n earlier leaf calls; a virtual one does not run on null
 abbrev pub leaf_outcome : Leaf → List Value → ℕ → Option Outcome
 leaf_outcome leaf args n = if lacks_receiver leaf args then Some (Throw (bare null_pointer_class)) else kind_on leaf.kind args n
 
--- the one leaf call that a leaf makes, or none where it does not run
+-- the one leaf call that a leaf makes, or none if it does not run
 abbrev pub calls_of : LeafId → Leaf → List Value → List LeafCall
 calls_of l leaf args = if lacks_receiver leaf args then [] else record { leaf = l; args = args } ∷ []
 

@@ -3,7 +3,7 @@ ghost use Rattle.mh_leaf.specs.Outcome.{two_ints, two_longs, one_boolean, one_va
 
 use mh_values::{Num, Value};
 
-/// Two ints, where these are the arguments.
+/// Two ints, if these are the arguments.
 pub fn two_ints(args: &[Value]) -> Option<(i32, i32)>
     ensures { result ≡ two_ints args.now }
 {
@@ -13,7 +13,7 @@ pub fn two_ints(args: &[Value]) -> Option<(i32, i32)>
     }
 }
 
-/// Two longs, where these are the arguments.
+/// Two longs, if these are the arguments.
 pub fn two_longs(args: &[Value]) -> Option<(i64, i64)>
     ensures { result ≡ two_longs args.now }
 {
@@ -23,7 +23,7 @@ pub fn two_longs(args: &[Value]) -> Option<(i64, i64)>
     }
 }
 
-/// One boolean, where this is the argument.
+/// One boolean, if this is the argument.
 pub fn one_boolean(args: &[Value]) -> Option<bool>
     ensures { result ≡ one_boolean args.now }
 {
@@ -33,7 +33,7 @@ pub fn one_boolean(args: &[Value]) -> Option<bool>
     }
 }
 
-/// One value, where this is the argument.
+/// One value, if this is the argument.
 pub fn one_value(args: &[Value]) -> Option<&Value>
     ensures { option_copied result ≡ one_value args.now }
 {
@@ -43,7 +43,7 @@ pub fn one_value(args: &[Value]) -> Option<&Value>
     }
 }
 
-/// Two values, where these are the arguments.
+/// Two values, if these are the arguments.
 pub fn two_values(args: &[Value]) -> Option<(&Value, &Value)>
     ensures { option_map (λ p. (p.0.now, p.1.now)) result ≡ two_values args.now }
 {
@@ -63,7 +63,7 @@ pub fn first_value(args: &[Value]) -> Option<&Value>
     }
 }
 
-/// The second of three arguments where the first is true, the third where it is false.
+/// The second of three arguments if the first is true, the third if it is false.
 pub fn picked_value(args: &[Value]) -> Option<&Value>
     ensures { option_copied result ≡ picked_value args.now }
 {

@@ -54,7 +54,7 @@ fn signed(n: u32) -> i32
     n.cast_signed()
 }
 
-/// A value as a result, where there is one.
+/// A value as a result, if there is one.
 fn returned(alloc: Global, value: Option<&Value>) -> Result<Option<Outcome>, NoMemory>
     ensures { IfOk result (λ outcome. outcome ≡ option_map returned (option_copied value.entry)) }
 {
@@ -151,8 +151,8 @@ fn length(args: &[Value]) -> Option<Outcome>
     measured(one_value(args)?)
 }
 
-/// What a leaf of a kind does with these arguments, where `n` leaf calls were made before in the
-/// invocation; `None` where a leaf of the kind cannot have them.
+/// What a leaf of a kind does with these arguments, after `n` earlier leaf calls of the invocation;
+/// `None` if a leaf of the kind cannot have them.
 pub fn kind_does(
     alloc: Global,
     kind: Kind,
@@ -192,8 +192,8 @@ pub fn lacks_receiver(is_virtual: bool, args: &[Value]) -> bool
     }
 }
 
-/// What a leaf does with these arguments, where `n` leaf calls were made before in the invocation.
-/// A virtual leaf whose receiver is null throws `NullPointerException` and makes no leaf call.
+/// What a leaf does with these arguments, after `n` earlier leaf calls of the invocation. A virtual
+/// leaf whose receiver is null throws `NullPointerException` and makes no leaf call.
 pub fn leaf_does(alloc: Global, leaf: &Leaf, args: &[Value], n: u32) -> Result<Outcome, NoMemory>
     requires { IsSome (leaf_outcome leaf.now args.now n) }
     ensures { IfOk result (λ outcome. leaf_outcome leaf.now args.now n ≡ Some outcome) }

@@ -10,7 +10,7 @@ pub enum Kind {
     Isub,
     /// `imul`: their product.
     Imul,
-    /// `idiv`: their quotient, cut toward zero.
+    /// `idiv`: their quotient, rounded toward zero.
     Idiv,
     /// `ladd`: the sum of two longs.
     Ladd,
@@ -28,9 +28,9 @@ pub enum Kind {
     Same,
     /// `first`: the first of two or more arguments.
     First,
-    /// `pick`: the second argument where the first is true, else the third.
+    /// `pick`: the second argument if the first is true, otherwise the third.
     Pick,
-    /// `tick`: how many leaf calls were made before.
+    /// `tick`: how many leaf calls the invocation made before this one.
     Tick,
     /// `note`: nothing.
     Note,

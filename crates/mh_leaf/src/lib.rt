@@ -10,3 +10,4 @@ mod text;
 pub use allowed::{is_kind_type, throws_exceptions};
 pub use does::{kind_does, lacks_receiver, leaf_does};
 pub use leaf::{Kind, Leaf};
+pub use text::{joined, measured};

@@ -19,7 +19,7 @@ fn characters_of(value: &Value) -> Option<&[char]>
     }
 }
 
-/// Two texts joined, where the whole is not too long for a text.
+/// Two texts joined, if the whole is not too long for a text.
 fn text(alloc: Global, front: &[char], back: &[char]) -> Result<Outcome, NoMemory>
     ensures { IfOk result (λ outcome. outcome ≡ text (front.now ++ back.now)) }
 {

@@ -6,7 +6,7 @@ use Rattle.mh_leaves.specs.declared.manifest.ManifestKind.{ManifestKind}
 use Rattle.mh_leaves.specs.declared.manifest.ManifestError.{ManifestError}
 use Rattle.mh_leaves.specs.declared.manifest.ManifestError.TheVariants.{NoMemory, Fault}
 
--- the value, or the first fault; want of memory says nothing
+-- the value, or the first fault; about lack of memory nothing is said
 abbrev pub TellsManifest : Result LeafTable ManifestError → Result LeafTable (LineFault ManifestKind) → Type 0
 TellsManifest (Ok got) meaning = meaning ≡ Ok got
 TellsManifest (Err NoMemory) meaning = Unit {0}

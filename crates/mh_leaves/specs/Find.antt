@@ -18,7 +18,7 @@ is_way Any leaf = true
 is_way Static leaf = not leaf.is_virtual
 is_way Virtual leaf = leaf.is_virtual
 
--- whether two owners, names and descriptors are one
+-- whether two owners, names and descriptors are equal
 abbrev pub are_texts : ClassId → List ℕ → List ℕ → ClassId → List ℕ → List ℕ → Bool
 are_texts owner name descriptor other_owner other_name other_descriptor =
     (owner.0 == other_owner.0 && bytes_eq name other_name) && bytes_eq descriptor other_descriptor

@@ -37,7 +37,7 @@ kind_word TooMany = codes "TooMany"
 
 -- ---- classes
 
--- a class of a new name below a class that is there
+-- a class with a new name, below a declared class
 abbrev pub class_added : LeafTable → List ℕ → ClassId → Result LeafTable ManifestKind
 class_added table name superclass = provided (not (length table.classes == most_classes)) TooMany (Ok (with_class table name superclass))
 
@@ -62,25 +62,25 @@ is_kind_word word = is_some (word_kind word) || is_some (thrown_name word)
 abbrev pub throw_kind : List Class → List ℕ → Option Kind
 throw_kind classes word = option_and_then (λ name. option_map kind.Throw (class_named classes name)) (thrown_name word)
 
--- the kind of a word, whose class must be there
+-- the kind of a word, whose class must be declared
 abbrev pub kind_among : List Class → List ℕ → Option Kind
 kind_among classes word = option_or (word_kind word) (throw_kind classes word)
 
 -- ---- descriptors
 
--- whether the class is there that a piece of a descriptor names, if it names one: after its first `L`
+-- whether the class that a piece of a descriptor names is declared, if it names one: after its first `L`
 abbrev pub knows_name : List Class → List ℕ → Bool
 knows_name classes piece = option_map_or (λ parts. is_some (class_named classes parts.1)) (cut_at capital_L piece) true
 
--- whether the classes are there that a descriptor names: each name ends with `;`
+-- whether the classes that a descriptor names are declared: each name ends with `;`
 abbrev pub knows_names : List Class → List ℕ → Bool
 knows_names classes descriptor = list_all (knows_name classes) (slice_split (λ b. b == semicolon) descriptor)
 
--- no class is unknown that a descriptor names, if it is one
+-- each class that a text names is declared, if the text is a descriptor
 abbrev pub has_known_classes : List Class → List ℕ → Bool
 has_known_classes classes descriptor = is_some (descriptor_fault descriptor) || knows_names classes descriptor
 
--- the type of a descriptor, if all its types are there
+-- the type of a descriptor, if all its types can be read
 abbrev pub type_if_read : {E : Type 0} → Result MethodTy E → Option MethodTy
 type_if_read (Ok t) = Some t
 type_if_read (Err e) = None
@@ -92,7 +92,7 @@ abbrev pub is_repeated : LeafTable → Texts → Bool
 is_repeated table texts = option_map_or (λ owner. list_any (has_texts owner texts.name texts.descriptor) table.leaves) (class_named table.classes texts.owner)
     false
 
--- a leaf, where its handle's type has at most 254 slots and its kind allows the type
+-- a leaf, if its handle's type has at most 254 slots and its kind allows the type
 abbrev pub leaf_added : LeafTable → Leaf → Result LeafTable ManifestKind
 leaf_added table leaf =
     provided (nat_le (slots_of_all leaf.ty.params) 254) BadDescriptor
@@ -117,7 +117,7 @@ owned_leaf table is_virtual texts owner kind =
     provided (has_known_classes table.classes texts.descriptor) UnknownClass
     (provided_some (type_if_read (desc table.classes texts.descriptor)) BadDescriptor (λ t. leaf_added table (leaf_of_line is_virtual texts owner kind t)))
 
--- the texts of a leaf's line are such as it may have
+-- the texts of a leaf's line are of the right form
 abbrev pub is_leaf_text : Texts → List ℕ → Bool
 is_leaf_text texts word = is_class_name texts.owner && is_method_name texts.name && not (length texts.descriptor == 0) && is_kind_word word
 

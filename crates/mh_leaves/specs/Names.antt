@@ -28,7 +28,7 @@ descriptor_names d = type_names d.params ++ return_names d.ret
 abbrev pub are_classes : List Class → List (List ℕ) → Bool
 are_classes classes names = list_all (λ name. is_some (class_named classes name)) names
 
--- whether the classes are known that a text names: a method descriptor names those of its types, any other text names none
+-- whether the classes that a text names are declared: a method descriptor names those of its types, and any other text names none
 pub record KnowsNames (classes : List Class) (text : List ℕ) (known : Bool) : Type 0 where
   pub descriptor : (d : IsMethodDescriptor text) → known ≡ are_classes classes (descriptor_names d)
   pub other : (IsMethodDescriptor text → ⊥) → known ≡ true

@@ -22,7 +22,7 @@ key_cmp x y = ordering_then (ordering_then (nat_cmp x.0 y.0) (nat_cmp x.1 y.1)) 
 abbrev pub leaf_at : BTreeMap Key ℕ → ℕ → Option ℕ → Option ℕ → Option ℕ
 leaf_at leaves owner name descriptor = option_and_then (λ i. option_and_then (λ j. get key_cmp leaves (owner, i, j)) descriptor) name
 
--- no two texts have one number
+-- no two texts have the same number
 abbrev pub AreApart : BTreeMap (Vec ℕ) ℕ → Type 0
 AreApart texts = (a b : List ℕ) (n : ℕ) → text_number texts a ≡ Some n → text_number texts b ≡ Some n → a ≡ b
 
@@ -39,13 +39,13 @@ pub record AreNumbered (texts : BTreeMap (Vec ℕ) ℕ) : Type 0 where
 abbrev pub AreByTexts : BTreeMap (Vec ℕ) ℕ → BTreeMap Key ℕ → Type 0
 AreByTexts texts leaves = (owner i j n : ℕ) → get key_cmp leaves (owner, i, j) ≡ Some n → (i < btree_map_len texts) × (j < btree_map_len texts)
 
--- a text's number stays, or it is new and after those that there were
+-- a text keeps its number, or has a new one after all earlier ones
 abbrev pub IsNumberedAnew : BTreeMap (Vec ℕ) ℕ → BTreeMap (Vec ℕ) ℕ → List ℕ → Type 0
 IsNumberedAnew old new text =
     (text_number new text ≡ text_number old text)
     ⊎ ((n : ℕ) × (text_number old text ≡ None) × (text_number new text ≡ Some n) × (btree_map_len old ≤ n))
 
--- each text keeps its number, and new ones have numbers after those that there were
+-- each text keeps its number, and new texts have numbers after all earlier ones
 pub record AreGrown (old new : BTreeMap (Vec ℕ) ℕ) : Type 0 where
   pub numbers : (text : List ℕ) → IsNumberedAnew old new text
   pub longer : btree_map_len old ≤ btree_map_len new

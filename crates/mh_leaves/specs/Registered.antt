@@ -22,11 +22,11 @@ use Rattle.mh_leaf.specs.Outcome.{leaf_outcome, is_kind_type}
 abbrev pub nothing_registered : LeafTable
 nothing_registered = record { classes = builtin_classes; leaves = [] }
 
--- a class more
+-- one more class
 abbrev pub with_class : LeafTable → List ℕ → ClassId → LeafTable
 with_class table name superclass = record table { classes = table.classes ++ class_of name (Some superclass) ∷ [] }
 
--- a leaf more
+-- one more leaf
 abbrev pub with_leaf : LeafTable → Leaf → LeafTable
 with_leaf table leaf = record table { leaves = table.leaves ++ leaf ∷ [] }
 
@@ -44,12 +44,12 @@ abbrev pub handle_type : Bool → ClassId → MethodTy → MethodTy
 handle_type true owner t = record { params = ty.Class owner ∷ t.params; ret = t.ret }
 handle_type false owner t = t
 
--- a leaf has the type of its descriptor among the classes, with the receiver first where it is virtual
+-- a leaf has the type of its descriptor among the classes, with the receiver first if it is virtual
 abbrev pub IsDescribed : List Class → Leaf → Type 0
 IsDescribed classes leaf = (t : MethodTy) × (desc classes leaf.descriptor ≡ Ok t) × (leaf.ty ≡ handle_type leaf.is_virtual leaf.owner t)
 
--- a leaf's owner is a class of the list, its kind allows its type, its parameters, the receiver among them, take at most 254 slots, and its descriptor
--- says its type
+-- A leaf's owner is a class of the list, and its kind allows its type. Its parameters, including the receiver, take at most 254 slots. Its descriptor says its
+-- type.
 pub record IsLeafOf (classes : List Class) (leaf : Leaf) : Type 0 where
   pub owner : leaf.owner.0 < length classes
   pub typed : IsTrue (is_kind_type leaf.kind leaf.ty)

@@ -1,4 +1,4 @@
--- The names of classes in a manifest: those of what is registered are there, and a faulty line has one that is not there just where its fault says so.
+-- The names of classes in a manifest: those of what is registered are declared, and a faulty line has an undeclared one if and only if its fault says so.
 use Rattle.std.specs.Prelude.{◌≡◌, ℕ, ◌+◌, List, [], ◌∷◌, ◌++◌, codes, length, None, Result, Ok, Err, All, Contains}
 use Rattle.mh_base.specs.Lines.{lines_of, tokens_of, built_from}
 use Rattle.mh_base.specs.declared.lines.LineFault.{LineFault}
@@ -14,14 +14,14 @@ use Rattle.mh_leaves.specs.Manifest.{line_meaning}
 use Rattle.mh_leaves.specs.Names.{descriptor_names, NamesClasses}
 use Rattle.mh_leaves.specs.Registered.{nothing_registered}
 
--- a leaf's line names a class that is not there: as the owner, as the class that is thrown, or in the types of the descriptor
+-- a leaf's line names an undeclared class: as the owner, as the class that is thrown, or in the types of the descriptor
 pub data LeafNamesUnknown (classes : List Class) (owner descriptor kind : List ℕ) : Type 0 where
   as_owner : class_named classes owner ≡ None → LeafNamesUnknown classes owner descriptor kind
   as_thrown : (name : List ℕ) → kind ≡ codes "throw:" ++ name → class_named classes name ≡ None → LeafNamesUnknown classes owner descriptor kind
   in_types : (d : IsMethodDescriptor descriptor) (name : List ℕ) → Contains (descriptor_names d) name → class_named classes name ≡ None →
       LeafNamesUnknown classes owner descriptor kind
 
--- a line, by its tokens, names a class that is not there: as the superclass of a class, or in a line of a leaf
+-- a line, by its tokens, names an undeclared class: as the superclass of a class, or in a line of a leaf
 pub data NamesUnknown (classes : List Class) : List (List ℕ) → Type 0 where
   of_class : (name superclass : List ℕ) → class_named classes superclass ≡ None → NamesUnknown classes (codes "class" ∷ name ∷ superclass ∷ [])
   of_static : (owner name descriptor kind : List ℕ) → LeafNamesUnknown classes owner descriptor kind →
@@ -29,7 +29,8 @@ pub data NamesUnknown (classes : List Class) : List (List ℕ) → Type 0 where
   of_virtual : (owner name descriptor kind : List ℕ) → LeafNamesUnknown classes owner descriptor kind →
       NamesUnknown classes (codes "virtual" ∷ owner ∷ name ∷ descriptor ∷ kind ∷ [])
 
--- what the kind of a line's fault tells of the classes that the line names: those before `UnknownClass` tell nothing, and those after it that all are there
+-- what the kind of a line's fault says of the classes that the line names: kinds before `UnknownClass` say nothing, and kinds after it say that all are
+-- declared
 abbrev pub TellsUnknown : ManifestKind → List Class → List (List ℕ) → Type 0
 TellsUnknown BadLine classes tokens = Unit {0}
 TellsUnknown Twice classes tokens = Unit {0}
@@ -38,7 +39,7 @@ TellsUnknown BadDescriptor classes tokens = NamesUnknown classes tokens → ⊥
 TellsUnknown BadKind classes tokens = NamesUnknown classes tokens → ⊥
 TellsUnknown TooMany classes tokens = NamesUnknown classes tokens → ⊥
 
--- a fault is that of the line of its number, and tells of the names in it, among the classes that the lines before it register
+-- a fault is that of the line with its number, and says this of the names in it, given the classes that the lines before it register
 pub record IsFaultOf (bytes : List ℕ) (fault : LineFault ManifestKind) : Type 0 where
   pub before : List (List ℕ)
   pub line : List ℕ
@@ -49,7 +50,7 @@ pub record IsFaultOf (bytes : List ℕ) (fault : LineFault ManifestKind) : Type 
   pub registered : built_from line_meaning 1 nothing_registered before ≡ Ok so_far
   pub names : TellsUnknown fault.kind so_far.classes (tokens_of line)
 
--- what an answer tells of the names of classes: each leaf's descriptor names classes that are there, and a fault tells of those of its line
+-- what an answer says of the names of classes: each leaf's descriptor names declared classes, and a fault speaks of those of its line
 abbrev pub TellsNames : List ℕ → Result LeafTable ManifestError → Type 0
 TellsNames bytes (Ok table) = All (λ leaf. NamesClasses table.classes leaf.descriptor) table.leaves
 TellsNames bytes (Err NoMemory) = Unit {0}

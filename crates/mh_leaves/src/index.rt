@@ -8,7 +8,7 @@ use mh_values::ClassId;
 use std::alloc::Global;
 use std::collections::BTreeMap;
 
-/// The number of a text, which it gets where it has none.
+/// The number of a text, which it gets if it has none.
 fn number_text(
     alloc: Global,
     texts: &mut BTreeMap<Vec<u8>, usize>,

@@ -73,7 +73,7 @@ fn throw_kind(word: &[u8], classes: &Classes) -> Option<Kind>
     Some(Kind::Throw(class))
 }
 
-/// The kind of a word; `None` also where its class is not there.
+/// The kind of a word; `None` also if its class is not declared.
 pub(crate) fn kind_among(word: &[u8], classes: &Classes) -> Option<Kind>
     ensures { result ≡ kind_among classes.now word.now }
 {

@@ -63,7 +63,7 @@ impl Leaves {
         self.classes.find(name)
     }
 
-    /// Whether as many classes are there as may be.
+    /// Whether there are as many classes as there may be.
     pub(crate) fn has_most_classes(&self) -> bool
         ensures { result ≡ (length self.now.classes == most_classes) }
     {
@@ -84,7 +84,7 @@ impl Leaves {
         }
     }
 
-    // The place of the leaf with these texts, of which there is at most one.
+    // The place of the one leaf with these texts, if there is one.
     fn place_of(&self, owner: ClassId, name: &[u8], descriptor: &[u8]) -> Option<u32>
         ensures found { result
             ≡ position (has_texts owner name.now descriptor.now) self.now.leaves }
@@ -93,7 +93,7 @@ impl Leaves {
         self.index.find(owner, name, descriptor)
     }
 
-    // The same, where it is called in that way.
+    // The same, if it is called in that way.
     fn place_called(&self, owner: ClassId, name: &[u8], descriptor: &[u8], how: How) -> Option<u32>
         ensures found { result
             ≡ position (is_called owner name.now descriptor.now how) self.now.leaves }
@@ -192,8 +192,8 @@ impl Leaves {
         self.leaves[id.0 as usize].is_virtual
     }
 
-    /// What a leaf does with arguments of its parameter types, where `n` leaf calls were made before in
-    /// the invocation.
+    /// What a leaf does with arguments of its parameter types, after `n` earlier leaf calls of the
+    /// invocation.
     pub fn leaf_does(
         &self,
         alloc: Global,

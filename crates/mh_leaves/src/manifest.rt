@@ -28,20 +28,22 @@ use std::alloc::{AllocError, Global};
 use std::error::Error;
 use std::fmt;
 
-/// What is wrong with a line of a manifest. Where several kinds apply, the line has the first of them.
+/// What is wrong with a line of a manifest. If several kinds apply, the line has the first of them.
 #[derive(Clone, Copy, Debug, PartialEq, Eq)]
 pub enum ManifestKind {
-    /// The line is none of a manifest, or a name or a kind in it is none.
+    /// The line is no line of a manifest, or has a text in the place of a name or a kind that is
+    /// none.
     BadLine,
-    /// The class or the leaf is there already.
+    /// The class is declared, or the leaf registered, already.
     Twice,
-    /// A class that the line names is not there.
+    /// A class that the line names is not declared.
     UnknownClass,
-    /// The descriptor is none, has a type left out, or gives a method handle of more than 254 slots.
+    /// The descriptor is none, has a type that `mh` lacks, or gives a method handle of more than
+    /// 254 slots.
     BadDescriptor,
     /// The kind does not allow the type, or throws what is no exception.
     BadKind,
-    /// The class is past 1,024 that were declared, or the leaf past 4,096.
+    /// 1,024 classes were declared before this one, or 4,096 leaves registered.
     TooMany,
 }
 
@@ -104,7 +106,7 @@ impl From<AllocError> for ManifestError {
 /// How a line was taken.
 type LineResult = Result<(), LineError<ManifestKind>>;
 
-/// A leaf of a line: its owner and its kind are there, and its descriptor is not read yet.
+/// A leaf of a line: its owner and its kind are known, and its descriptor is not read yet.
 #[derive(Clone, Copy)]
 struct LeafLine<'b> {
     is_virtual: bool,
@@ -113,7 +115,7 @@ struct LeafLine<'b> {
     kind: Kind,
 }
 
-// Declares a class below one that is there.
+// Declares a class below a declared one.
 fn add_class(leaves: &mut Leaves, name: &[u8], superclass: ClassId) -> LineResult
     requires new { class_named leaves.old.classes name.now ≡ None }
     requires superclass { superclass.0 < length leaves.old.classes }
@@ -184,7 +186,7 @@ fn add_leaf(alloc: Global, leaves: &mut Leaves, leaf: Leaf) -> LineResult
     Ok(())
 }
 
-// Whether the class is there that a piece of a descriptor names, if it names one.
+// Whether the class that a piece of a descriptor names is declared, if it names one.
 fn knows_name(classes: &Classes, piece: &[u8]) -> bool
     ensures { result ≡ knows_name classes.now piece.now }
 {
@@ -194,14 +196,14 @@ fn knows_name(classes: &Classes, piece: &[u8]) -> bool
     }
 }
 
-// Whether the classes are there that pieces of a descriptor name.
+// Whether the classes that pieces of a descriptor name are declared.
 fn knows_each(classes: &Classes, pieces: &[&[u8]]) -> bool
     ensures { result ≡ list_all (λ piece. knows_name classes.now piece.now) pieces.now }
 {
     pieces.iter().all(|piece| knows_name(classes, piece))
 }
 
-// Whether the classes are there that a descriptor names.
+// Whether the classes that a descriptor names are declared.
 fn knows_names(alloc: Global, classes: &Classes, descriptor: &[u8]) -> Result<bool, NoMemory>
     ensures { IfOk result (λ known. known ≡ knows_names classes.now descriptor.now) }
 {
@@ -209,7 +211,7 @@ fn knows_names(alloc: Global, classes: &Classes, descriptor: &[u8]) -> Result<bo
     Ok(knows_each(classes, &pieces))
 }
 
-// Whether no class is unknown that a descriptor names, if it is one.
+// Whether each class that a text names is declared, if the text is a descriptor.
 fn has_known_classes(alloc: Global, classes: &Classes, descriptor: &[u8]) -> Result<bool, NoMemory>
     ensures names { IfOk result (λ known. KnowsNames classes.now descriptor.now known) }
     ensures is { IfOk result (λ known. known ≡ has_known_classes classes.now descriptor.now) }
@@ -220,7 +222,7 @@ fn has_known_classes(alloc: Global, classes: &Classes, descriptor: &[u8]) -> Res
     knows_names(alloc, classes, descriptor)
 }
 
-/// The type of a descriptor, if it is one and all its types are there.
+/// The type of a descriptor, if it is one and all its types can be read.
 pub fn type_of(
     alloc: Global,
     classes: &Classes,
@@ -273,7 +275,7 @@ fn read_owned(alloc: Global, leaves: &mut Leaves, line: LeafLine<'_>) -> LineRes
     add_leaf(alloc, leaves, leaf)
 }
 
-// Whether the texts of a leaf's line are such as it may have.
+// Whether the texts of a leaf's line are of the right form.
 fn is_leaf_text(texts: Reference<'_>, word: &[u8]) -> bool
     ensures { result ≡ is_leaf_text (texts_of texts.entry) word.now }
 {
@@ -418,8 +420,8 @@ fn read_all(alloc: Global, bytes: &[u8]) -> Result<Leaves, ManifestError>
     Ok(leaves)
 }
 
-/// Reads a manifest, or gives its first faulty line. A line that no `u32` can number is want of
-/// memory.
+/// Reads a manifest, or gives its first faulty line. A line that no `u32` can number counts as lack
+/// of memory.
 pub fn read_manifest(alloc: Global, bytes: &[u8]) -> Result<Leaves, ManifestError>
     ensures meaning { TellsManifest result (manifest bytes.now) }
     ensures names { TellsNames bytes.now result }

@@ -76,7 +76,7 @@ pub fn is_method_name(name: &[u8]) -> bool
 }
 
 /// The texts of a reference `OWNER.NAME:DESC`: the owner ends at the first `.`, the name at the next
-/// `:`, and the rest is the descriptor, whatever it is. `None` where the owner or the name is none.
+/// `:`, and the rest is the descriptor, whatever it is. `None` if the owner or the name is none.
 pub fn read_reference(text: &[u8]) -> Option<Reference<'_>>
     ensures { option_map texts_of result ≡ reference_of text.now }
 {

@@ -20,12 +20,12 @@ asked_of_call known (Err e) = []
 abbrev pub asked_of_job : Found → ConstJob → List ℕ
 asked_of_job known job = asked_of_call known (arguments_of_call job.call)
 
--- the constants that a constant looks at itself: none where it has no depth
+-- the constants that a constant looks at itself: none if it has no depth
 abbrev pub asked_by : Constants → Found → ℕ → List ℕ
 asked_by run known c =
     if is_some (depth run c) then option_map_or (asked_of_job known) (slice_get run.jobs c) [] else []
 
--- all that stands below a number, so many steps deep: each that it looks at, directly followed by all that stands below that
+-- all constants below one, this many steps deep: each that it looks at, directly followed by all below that
 unfoldable pub below : (ℕ → List ℕ) → ℕ → ℕ → List ℕ
 below own zero c = []
 below own (suc n) c = flat_map (λ d. d ∷ below own n d) (own c)

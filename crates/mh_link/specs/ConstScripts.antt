@@ -93,7 +93,7 @@ const_ended classes (end.Raise class message) frame = do
   Err (saying c message)
 const_ended classes (end.Value v) frame = const_value frame v
 
--- the lines from where a script stands; the first that throws ends it
+-- the lines that are left of a script; the first that throws ends it
 abbrev pub const_ran : List Class → List Step → End → ConstFrame → OrThrown Value
 const_ran classes [] e frame = const_ended classes e frame
 const_ran classes (s ∷ steps) e frame = const_stepped s frame >>= const_ran classes steps e

@@ -1,4 +1,4 @@
--- What a dynamic constant is, where the serial of each constant is given (JVMS SE 17, 5.4.3.6).
+-- What a dynamic constant is, given the serial of each constant (JVMS SE 17, 5.4.3.6).
 use Rattle.std.specs.Prelude.{ℕ, zero, suc, List, codes, Option, None, Ok, Err, option_map, ok_or, slice_get, is_some}
 use Rattle.std.specs.Option.{option_flatten}
 use Rattle.mh_values.specs.declared.class.Class.{Class}
@@ -15,7 +15,7 @@ use Rattle.mh_link.specs.ConstScripts.{script_value}
 use Rattle.mh_link.specs.Named.{Constants}
 use Rattle.mh_link.specs.Depth.{depth, most_depth}
 
--- for each constant the serial of the attempt by which it is resolved, where it is
+-- for each constant the serial of the attempt that resolves it, if one does
 abbrev pub Serials : Type 0
 Serials = List (Option ℕ)
 
@@ -40,7 +40,7 @@ as_recorded classes (Err e) = Err (recorded classes e)
 abbrev pub call_value : Constants → ConstBootstrap → ℕ → List Argument → OrThrown Value
 call_value run call serial arguments = script_value run.leaves.classes run.scripts call serial arguments
 
--- the outcome of the attempt of a serial at a constant, where constants are what they are known to be
+-- the outcome of the attempt of a serial at a constant, given what is known of constants
 abbrev pub const_outcome : Constants → Found → ℕ → ℕ → OrThrown Value
 const_outcome run known c serial = do
   require (is_some (depth run c)) too_deep
@@ -53,7 +53,7 @@ const_outcome run known c serial = do
 abbrev pub const_under : Constants → Found → ℕ → ℕ → OrThrown Value
 const_under run known c serial = as_recorded run.leaves.classes (const_outcome run known c serial)
 
--- what constants are by these serials, where they are at most so deep
+-- what constants are by these serials, if their depth is at most this
 unfoldable pub values : Constants → Serials → ℕ → Found
 values run table zero c = None
 values run table (suc n) c = option_map (λ serial. const_under run (λ d. values run table n d) c serial) (serial_at table c)

@@ -4,13 +4,13 @@ use Rattle.std.specs.Option.{option_map_or}
 use Rattle.mh_jobs.specs.declared.constants.ConstJob.{ConstJob}
 use Rattle.mh_link.specs.Named.{Constants}
 
--- the greatest of some depths, where each is there
+-- the greatest of some depths, if all are there
 abbrev pub greatest : List (Option ℕ) → Option ℕ
 greatest [] = Some 0
 greatest (None ∷ depths) = None
 greatest (Some k ∷ depths) = option_map (max k) (greatest depths)
 
--- the depth of a constant, where it is at most n: 1 more than the greatest of those that it names
+-- the depth of a constant, if it is at most n: 1 more than the greatest of those that it names
 unfoldable pub depth_within : Constants → ℕ → ℕ → Option ℕ
 depth_within run zero c = None
 depth_within run (suc n) c =
@@ -29,6 +29,6 @@ abbrev pub cut : ℕ → Option ℕ → Option ℕ
 cut n None = None
 cut n (Some k) = if nat_le k n then Some k else None
 
--- how deep a constant stands, where one without a depth stands at 0
+-- the rank of a constant: its depth, or 0 if it has none
 abbrev pub rank : Constants → ℕ → ℕ
 rank run c = unwrap_or (depth run c) 0

@@ -133,6 +133,6 @@ beginnings (x ∷ xs) = (x ∷ []) ∷ map (λ front. x ∷ front) (beginnings x
 abbrev pub call_edits : {K : Type 0} → (Tree → List K) → LeafTable → List Script → OrThrown BootstrapCall → ℕ → List (List K)
 call_edits recipe leaves scripts call serial = flat_map (λ t. beginnings (recipe t)) (call_nodes leaves scripts call serial)
 
--- likewise of an attempt at a job's site
+-- the same of an attempt at a job's site
 abbrev pub edits : {K : Type 0} → (Tree → List K) → LeafTable → List Script → Job → ℕ → List (List K)
 edits recipe leaves scripts job serial = call_edits recipe leaves scripts (job_call job) serial

@@ -12,11 +12,11 @@ use Rattle.mh_values.specs.declared.value.Exc.{Exc}
 use Rattle.mh_values.specs.declared.value.Value.{Value}
 use Rattle.mh_jobs.specs.Thrown.{OrThrown, ◌>>=◌, unsupported}
 
--- what is found of each constant: its recorded value or error, where there is one
+-- what is found of each constant: its recorded value or error, if there is one
 abbrev pub Found : Type 0
 Found = ℕ → Option (OrThrown Value)
 
--- a constant as an argument; one of which nothing is known is unsupported
+-- a constant as an argument; it is unsupported if nothing is known of it
 abbrev pub taken : Option (OrThrown Value) → OrThrown Value
 taken (Some value) = value
 taken None = Err (unsupported (codes "constant"))
@@ -37,11 +37,11 @@ resolved_parts known thrown (Constant c ∷ parts) = do
   others ← resolved_parts known thrown parts
   Ok (argument.Value value ∷ others)
 
--- the static arguments, where constants are what they are known to be
+-- the static arguments, given what is known of constants
 abbrev pub resolved : Found → StaticArguments → OrThrown (List Argument)
 resolved known arguments = resolved_parts known arguments.thrown arguments.parts
 
--- the call of a bootstrap method at a site, where constants are what they are known to be
+-- the call of a bootstrap method at a site, given what is known of constants
 abbrev pub call_under : Found → OrThrown Bootstrap → OrThrown BootstrapCall
 call_under known call = do
   bootstrap ← call

@@ -57,7 +57,7 @@ fn push_bootstrap(
     }
 }
 
-// Where a site stands: `site K METHOD:DESC PC`.
+// The place of a site: `site K METHOD:DESC PC`.
 fn push_place(
     alloc: Global,
     text: &mut Vec<u8>,

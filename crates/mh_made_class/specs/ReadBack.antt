@@ -15,7 +15,7 @@ use Rattle.mh_made_class.specs.declared.site.MadeArg.TheVariants as args
 use Rattle.mh_made_class.specs.declared.site.MadeSite.{MadeSite}
 use Rattle.mh_made_class.specs.Constants.{bootstrap_type}
 
--- a number is one of its type, as each number of a program is
+-- a number lies in the range of its type, as each number of a program does
 abbrev pub IsNumber : MadeArg → Type 0
 IsNumber (args.Integer n) = FitsSigned w32 n
 IsNumber (args.Long n) = FitsSigned w64 n
@@ -56,7 +56,7 @@ abbrev pub sites_of : ℕ → List MadeSite → List SiteView
 sites_of k [] = []
 sites_of k (site ∷ sites) = site_of k site ∷ sites_of (k + 1) sites
 
--- a class has just these call sites and their bootstrap methods, in order
+-- a class has exactly these call sites and their bootstrap methods, in order
 pub record HasSites (made : List MadeSite) (c : Class) : Type 0 where
   pub sites : c.sites ≡ sites_of 0 made
   pub bootstraps : c.bootstraps ≡ map bootstrap_of made

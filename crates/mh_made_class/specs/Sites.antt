@@ -39,8 +39,8 @@ first_of_sites = 13
 abbrev pub pool_count : List MadeSite → ℕ
 pool_count sites = first_of_sites + sum_by site_width sites
 
--- call sites that a class file can be made for: each can be written, and the pool's count fits into 16 bits; so does then each number of
--- sites, of arguments and of bytes of code
+-- Call sites that a class file can be made for: each can be written, and the pool's count fits into 16 bits. The numbers of sites, of arguments and of bytes of
+-- code then fit too.
 pub record AreMakeable (sites : List MadeSite) : Type 0 where
   pub each : AllByRecursion IsMakeableSite sites
   pub few : pool_count sites < 2 ^ 16

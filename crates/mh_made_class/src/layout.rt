@@ -8,7 +8,7 @@ use mh_base::NoMemory;
 use std::alloc::Global;
 use std::marker::Model;
 
-/// The first index of the first call site: 0 is not usable, and twelve entries stand before it.
+/// The first index of the first call site: 0 is not usable, and twelve entries come before it.
 const FIRST_OF_SITES: usize = 13;
 
 /// A static argument, and the first index of the pool that is its own.
@@ -72,7 +72,7 @@ pub(crate) struct Layout<'s> {
     pub(crate) count: usize,
 }
 
-/// Where the constants of call sites stand in the pool.
+/// The places of the constants of call sites in the pool.
 pub(crate) fn place<'s>(alloc: Global, sites: &'s [MadeSite]) -> Result<Layout<'s>, NoMemory>
     requires { AreMakeable sites.now }
     ensures sites { IfOk result (λ layout. layout.sites.items ≡ placed sites.now) }

@@ -86,7 +86,7 @@ pub fn make_class(alloc: Global, sites: &MadeSites) -> Result<Vec<u8>, NoMemory>
     requires { AreMakeable sites.now }
     ensures bytes { IfOk result (λ file. file.items ≡ made_class sites.now) }
 
-    // Where each type is a method descriptor, `mh_classfile::read` gives a class with these sites.
+    // If each type is a method descriptor, `mh_classfile::read` gives a class with these sites.
     ensures class { IfOk result (λ file. ReadsBack sites.now file.items) }
 {
     write_class(alloc, sites)

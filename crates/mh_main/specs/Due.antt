@@ -50,8 +50,8 @@ abbrev pub AreAnswersOf : Program → Serials → List (List Answer) → Type 0
 AreAnswersOf p table threads =
     (results_said threads ≡ results_of (given_of p) table p.plan) × (keys_said threads ≡ plan_keys (given_of p) table p.plan)
 
--- the report on a program: the answer's table and attempts are a ledger of it, its answers are those of the calls under
--- the table, and the bytes are the text of all
+-- The report on a program. The answer's table and attempts are a ledger of the program, and its answers are those of the calls under the table. The bytes are
+-- the text of all this.
 abbrev pub IsReportOf : Program → TopAnswer → List ℕ → Type 0
 IsReportOf p answer bytes =
     LedgerBy p.workers p.plan (length p.jobs) answer.table answer.attempts
@@ -79,8 +79,7 @@ IsFullOf p bytes = (most_forms < draws_by (given_of p) p.workers p.plan) × (byt
 abbrev pub IsOverfullOf : Program → List ℕ → Type 0
 IsOverfullOf p bytes = OverfillBucket (types_by (given_of p) p.workers p.plan) × (bytes ≡ types_line)
 
--- what is due of a program: its report, or that its threads can draw too many numbers of forms, or that it can need too many types of a bucket, and then
--- nothing is answered
+-- What is due of a program: its report. Or its threads can draw too many form numbers, or it can need too many types of a bucket; then there are no answers.
 abbrev pub IsDueOf : Program → TopAnswer → List ℕ → Type 0
 IsDueOf p answer bytes = IsReportOf p answer bytes ⊎ (IsEmptyAnswer answer × (IsFullOf p bytes ⊎ IsOverfullOf p bytes))
 

@@ -8,8 +8,8 @@ use Rattle.mh_main.specs.Program.{given_of}
 use Rattle.mh_runtime.specs.Passes.{most_sites}
 use Rattle.mh_runtime.specs.Workers.{most_workers}
 
--- the calls of the plan can be made, they are within the limits, and the jobs are those of call sites; of these and of workers there are no more than there may
--- be
+-- The calls of the plan can be made and are within the limits. The jobs are those of call sites. There are at most as many call sites and workers as there may
+-- be.
 pub record IsRunnable (p : Program) : Type 0 where
   pub calls : AreCallsOf p.leaves p.jobs p.plan
   pub limits : IsWithinLimits p.plan

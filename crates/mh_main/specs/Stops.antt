@@ -40,7 +40,7 @@ IsStopOf name before now (TooLong at) = (at.now ≡ name) × AreSame before now
 IsStopOf name before now (Fault at line kind) = (at.now ≡ name) × AreSame before now
 IsStopOf name before now (Place at place kind) = (at.now ≡ name) × AreSame before now
 
--- this stops the reading of a file of at most so many bytes: it cannot be read, or it is longer
+-- this stops the reading of a file of at most this many bytes: it cannot be read, or it is longer
 abbrev pub StopsFile : ℕ → Contents → Stop → Type 0
 StopsFile limit contents NoMemory = Unit {0}
 StopsFile limit contents (ReadFault at) = Unit {0}
@@ -48,7 +48,7 @@ StopsFile limit contents (TooLong at) = MayBeLonger contents limit
 StopsFile limit contents (Fault at line kind) = ⊥
 StopsFile limit contents (Place at place kind) = ⊥
 
--- if contracts see the text, and it has at most so many bytes, it has the fault at this line, of the kind that has this word
+-- if contracts see the text, and it has at most this many bytes, it has the fault at this line, of the kind that has this word
 abbrev pub HasLineFault : {T K : Type 0} → ℕ → (K → List ℕ) → (List ℕ → Result T (LineFault K)) → Contents → ℕ → List ℕ → Type 0
 HasLineFault {K = K} limit word meaning (file bytes) line kind =
     (length bytes ≤ limit) × ((fault : LineFault K) × (meaning bytes ≡ Err fault) × (line ≡ fault.line) × (kind ≡ word fault.kind))
@@ -63,7 +63,7 @@ StopsText limit word meaning contents (TooLong at) = MayBeLonger contents limit
 StopsText limit word meaning contents (Fault at line kind) = HasLineFault limit word meaning contents line kind.now
 StopsText limit word meaning contents (Place at place kind) = ⊥
 
--- the bytes of a class file that may have so many call sites have the fault at this place, of the kind that has this word
+-- the bytes of a class file that may have this many call sites have the fault at this place, of the kind that has this word
 abbrev pub IsClassFault : ℕ → List ℕ → ℕ → List ℕ → Type 0
 IsClassFault room bytes place kind =
     (fault : Fault' ClassKind) × (class_or_fault room bytes ≡ Err fault) × (place ≡ fault.at) × (kind ≡ class_word fault.kind)
@@ -80,7 +80,7 @@ HasClassFault room (file bytes) place kind = (length bytes ≤ class_limit) × I
 HasClassFault room unknown place kind = Unit {0}
 HasClassFault room absent place kind = ⊥
 
--- this stops the reading of a class file that may have so many call sites: it cannot be read or is too long, or it has a fault
+-- this stops the reading of a class file that may have this many call sites: it cannot be read or is too long, or it has a fault
 abbrev pub StopsClass : ℕ → Contents → Stop → Type 0
 StopsClass room contents NoMemory = Unit {0}
 StopsClass room contents (ReadFault at) = Unit {0}
@@ -95,7 +95,7 @@ ReachesClass room (first ∷ names) files name =
     (name ≡ first)
     ⊎ ((c : Class) × HasMeaning class_limit (class_or_fault room) (files first) c × ReachesClass (room - length c.sites) names files name)
 
--- the class files that contracts see are of these classes, which have at most so many call sites together
+-- the class files that contracts see are of these classes, which have at most this many call sites together
 abbrev pub AreClassesOf : ℕ → List (List ℕ) → (List ℕ → Contents) → List Class → Type 0
 AreClassesOf room [] files classes = classes ≡ []
 AreClassesOf room (name ∷ names) files [] = ⊥

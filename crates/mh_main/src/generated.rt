@@ -26,9 +26,9 @@ fn names(alloc: Global) -> Result<Names<'static>, NoMemory>
     })
 }
 
-/// Makes the input from a number, and reads it as that of a run, of which one line is written. It
-/// is accepted, whatever the number is, so that only memory may be wanting; no file of the outside
-/// is read.
+/// Makes the input from a number, and reads it as that of a run that writes one line. It is
+/// accepted, whatever the number is, so that only memory may be wanting; no file of the outside is
+/// read.
 #[tactic(auto, using(crate::proofs::GeneratedInput::generated_read), unfolding(crate::specs::Input::generated_input))]
 pub fn read_generated(alloc: Global, number: u32) -> Result<Program, Stop<'static>>
     ensures memory { IfErr result (λ stop. stop ≡ Stop.NoMemory) }

@@ -20,7 +20,7 @@ pub struct Program {
     /// The jobs of the call sites of all class files, in order.
     pub jobs: Jobs,
     pub plan: Plan,
-    /// How many workers link all call sites before the calls; none where it is 0.
+    /// How many workers link all call sites before the calls; none if it is 0.
     pub workers: u32,
     pub output: Output,
 }

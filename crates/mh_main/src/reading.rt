@@ -29,7 +29,7 @@ use mh_script::{ScriptError, Scripts};
 use mh_words::Names;
 use std::alloc::Global;
 
-/// How many bytes a manifest may have, and likewise the scripts.
+/// How many bytes a manifest may have, and how many the scripts.
 const LEAVES_LIMIT: usize = 262_144;
 
 /// How many bytes a plan may have.

@@ -198,8 +198,8 @@ fn answer_listing<S: Sink>(alloc: Global, sink: &mut S, text: &[u8]) -> TopAnswe
     }
 }
 
-/// The program: it reads what the words name, runs it, each thread beside the others, and writes what
-/// it gives. Each thread calls the gate before and after it records the linkage of a site; a gate may
+/// The program: it reads what the words name, runs it with concurrent threads, and writes what it
+/// gives. Each thread calls the gate before and after it records the linkage of a site; a gate may
 /// hold it there, and changes nothing.
 pub fn top<'a, R: Threads + Wait + Sync, I: Inputs, S: Sink, G: Gate + Sync>(
     rt: &R,
@@ -241,13 +241,13 @@ pub fn top<'a, R: Threads + Wait + Sync, I: Inputs, S: Sink, G: Gate + Sync>(
     // The status `write_failed` comes if and only if the sink failed.
     ensures fails { FailsWhere result.status (S.faults sink.old) (S.faults sink.new) }
 
-    // A read that failed is never passed over, and never reported as want of memory.
+    // A read that failed is never passed over, and never reported as lack of memory.
     ensures keeps { KeepsInputs (I.contents inputs.old) (I.contents inputs.new)
         (I.faults inputs.old) (I.faults inputs.new) }
     ensures no_fault { result.status ≢ unread → result.status ≢ write_failed
         → AreSame (I.faults inputs.old) (I.faults inputs.new) }
 
-    // Where nothing failed, the words and the inputs decide the status, but for want of memory; a
+    // If nothing failed, the words and the inputs decide the status, except if memory runs out. A
     // program is run to its end if there are numbers for the forms that it can need, and slots for
     // its types.
     ensures usage_due { command_of (said words.now) ≡ None

@@ -11,7 +11,7 @@ ghost use Rattle.mh_handle.specs.Works.{TradesTypes, leaves_of, types_in};
 ghost use Rattle.mh_more.specs.Roots.{IsRoot};
 ghost use Rattle.mh_more.specs.Several.{HasParts};
 
-use crate::several::{Root, pair, rooted};
+use crate::several::{Root, make_rooted_of, pair};
 use mh_base::NoMemory;
 use mh_edit::Key;
 use mh_form::shape;
@@ -104,11 +104,11 @@ pub fn tryfinally_of<'t, R: Wait>(
     match try_root(w.alloc, ty, &target, &cleanup) {
         Ok(root) => {
             let handles = pair(w, target, cleanup)?;
-            rooted(w, rt, handles, root)
+            make_rooted_of(w, rt, handles, root)
         }
         Err(NoMemory) => {
             target.give_back(w);
-            cleanup.refused(w, CheckError::NoMemory)
+            cleanup.refuse(w, CheckError::NoMemory)
         }
     }
 }
@@ -143,7 +143,7 @@ pub fn tryfinally<'t, R: Wait>(
         Ok(ty) => tryfinally_of(w, rt, target, cleanup, ty),
         Err(error) => {
             target.give_back(w);
-            cleanup.refused(w, error)
+            cleanup.refuse(w, error)
         }
     }
 }

@@ -17,7 +17,7 @@ use std::sync::Wait;
 
 /// A handle of the type `ty` that converts its arguments explicitly to the parameter types of
 /// `target`, from left to right, and then the result (`MethodHandles.explicitCastArguments`, SE
-/// 17): numbers may lose their high bits, and null becomes zero. If `target` has that type, it is
+/// 17). Numbers may lose their high bits, and null becomes zero. If `target` has that type, it is
 /// the answer. If some conversion changes something, one edit is made, the one that `as_type` makes
 /// for these types, otherwise none. Refused with a `WrongMethodTypeException` if an argument or the
 /// result cannot be converted.

@@ -13,7 +13,7 @@ ghost use Rattle.mh_tree.specs.Check.{TellsRow};
 ghost use Rattle.mh_more.specs.Roots.{IsRoot};
 ghost use Rattle.mh_more.specs.Several.{HasParts};
 
-use crate::several::{Root, rooted, three};
+use crate::several::{Root, make_rooted_of, three};
 use mh_base::NoMemory;
 use mh_edit::Key;
 use mh_form::shape;
@@ -90,7 +90,7 @@ impl<'t> Looped<'t> {
     }
 
     /// Gives back the handles of a loop, and answers the refusal.
-    fn refused(self, w: &mut Work<'_, 't>, error: CheckError) -> Result<Handle<'t>, HandleError>
+    fn refuse(self, w: &mut Work<'_, 't>, error: CheckError) -> Result<Handle<'t>, HandleError>
         requires of_types { w.old.seat.now.table ≡ w.old.types.now }
         requires held { HoldsTypes w.old
             (self.iterations.held ++ self.init.held ++ self.body.held) }
@@ -107,7 +107,7 @@ impl<'t> Looped<'t> {
         } = self;
         iterations.give_back(w);
         init.give_back(w);
-        body.refused(w, error)
+        body.refuse(w, error)
     }
 }
 
@@ -137,7 +137,7 @@ pub fn counted_of<'t, R: Wait>(
         → StandsIn w.old looped.entry.init b → StandsIn w.old looped.entry.body d
         → IfOk result (λ h. StandsIn w.old h (tree.Counted a b d)) }
 {
-    // Each class stands after its superclass.
+    // Each class comes after its superclass.
     let _classes = w.classes();
     match looped.root(w.alloc, ty) {
         Ok(root) => {
@@ -147,9 +147,9 @@ pub fn counted_of<'t, R: Wait>(
                 body,
             } = looped;
             let handles = three(w, iterations, init, body)?;
-            rooted(w, rt, handles, root)
+            make_rooted_of(w, rt, handles, root)
         }
-        Err(NoMemory) => looped.refused(w, CheckError::NoMemory),
+        Err(NoMemory) => looped.refuse(w, CheckError::NoMemory),
     }
 }
 
@@ -190,6 +190,6 @@ pub fn counted<'t, R: Wait>(
     };
     match looped.ty(w) {
         Ok(ty) => counted_of(w, rt, looped, ty),
-        Err(error) => looped.refused(w, error),
+        Err(error) => looped.refuse(w, error),
     }
 }

@@ -136,7 +136,7 @@ fn with_all<'t>(
 
 /// A handle whose form a root makes, with these handles as its parts. If none is made, they are
 /// given back.
-pub(crate) fn rooted<'t, R: Wait>(
+pub(crate) fn make_rooted_of<'t, R: Wait>(
     w: &mut Work<'_, 't>,
     rt: &R,
     handles: Handles<'t>,
@@ -160,5 +160,5 @@ pub(crate) fn rooted<'t, R: Wait>(
         key,
         parts,
     };
-    Handle::rooted(w, rt, by)
+    Handle::make_rooted(w, rt, by)
 }

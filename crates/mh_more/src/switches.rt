@@ -14,7 +14,7 @@ ghost use Rattle.mh_more.specs.Roots.{IsRoot};
 ghost use Rattle.mh_more.specs.Several.{AreAllShaped, HasParts, StandForCases, holds_of};
 ghost use Rattle.mh_more.specs.Several.{own_types, weights_of};
 
-use crate::several::{Handles, Root, give_back_all, rooted, with_first};
+use crate::several::{Handles, Root, give_back_all, make_rooted_of, with_first};
 use mh_base::{Copied, NoMemory, Seq};
 use mh_edit::Key;
 use mh_form::shape;
@@ -108,7 +108,7 @@ impl<'t> Switched<'t> {
     }
 
     /// Gives back the handles of a switch, and answers the refusal.
-    fn refused(self, w: &mut Work<'_, 't>, error: CheckError) -> Result<Handle<'t>, HandleError>
+    fn refuse(self, w: &mut Work<'_, 't>, error: CheckError) -> Result<Handle<'t>, HandleError>
         requires of_types { w.old.seat.now.table ≡ w.old.types.now }
         requires held { HoldsTypes w.old (self.fallback.held ++ holds_of self.cases) }
         ensures unchanged { IsUnchanged w.old w.new }
@@ -118,7 +118,7 @@ impl<'t> Switched<'t> {
     {
         let Switched { fallback, cases } = self;
         give_back_all(w, cases.into_vec());
-        fallback.refused(w, error)
+        fallback.refuse(w, error)
     }
 }
 
@@ -151,9 +151,9 @@ pub fn switch_of<'t, R: Wait>(
         Ok(root) => {
             let Switched { fallback, cases } = switched;
             let handles = with_first(w, fallback, cases)?;
-            rooted(w, rt, handles, root)
+            make_rooted_of(w, rt, handles, root)
         }
-        Err(NoMemory) => switched.refused(w, CheckError::NoMemory),
+        Err(NoMemory) => switched.refuse(w, CheckError::NoMemory),
     }
 }
 
@@ -186,6 +186,6 @@ pub fn switch<'t, R: Wait>(
     let switched = Switched { fallback, cases };
     match switched.ty(w) {
         Ok(ty) => switch_of(w, rt, switched, ty),
-        Err(error) => switched.refused(w, error),
+        Err(error) => switched.refuse(w, error),
     }
 }

@@ -1,16 +1,16 @@
--- Counts of faults, and what a write that broke off leaves.
+-- Counts of faults, and what is known after a write that failed.
 use Rattle.std.specs.Prelude.{◌≡◌, ℕ, ◌+◌, ◌-◌, ◌^◌, ◌<◌, ◌≤◌, min, List, take, Option}
 use Rattle.std.specs.Io.KnownBytes.{Appends}
 
--- a count rose, or stands at the end of its 64 bits
+-- a count rose, or was at its maximum of 64 bits
 abbrev pub Rose : ℕ → ℕ → Type 0
 Rose before now = min (before + 1) (2 ^ 64 - 1) ≤ now
 
--- a count did not rise, and does not stand at its end
+-- a count did not rise, and was not at its maximum
 abbrev pub IsStill : ℕ → ℕ → Type 0
 IsStill before now = now < min (before + 1) (2 ^ 64 - 1)
 
--- no count of a name is another than before
+-- each name has the same count as before
 abbrev pub AreSame : (List ℕ → ℕ) → (List ℕ → ℕ) → Type 0
 AreSame before now = (name : List ℕ) → now name ≡ before name
 

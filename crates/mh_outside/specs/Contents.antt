@@ -9,18 +9,18 @@ pub data Contents : Type 0 where
   absent : Contents
   file : List ℕ → Contents
 
--- the buffer begins with n bytes of the file from a place on; they are none only where there is no room or the file ends
+-- the buffer begins with n bytes of the file from a place on; they are none only if there is no room or the file ends
 pub record ReadsFrom (bytes : List ℕ) (at n : ℕ) (buf : List ℕ) : Type 0 where
   pub same : take n buf ≡ take n (drop at bytes)
   pub ends : n ≡ 0 → 0 < length buf → length bytes ≤ at
 
--- the same of a file of which contracts see this; a file that is absent is not read
+-- the same of a file, by what contracts see of it; a file that is absent is not read
 abbrev pub HasRead : Contents → ℕ → ℕ → List ℕ → Type 0
 HasRead unknown at n buf = Unit {0}
 HasRead absent at n buf = ⊥
 HasRead (file bytes) at n buf = ReadsFrom bytes at n buf
 
--- a file of which contracts see this is open at a place: it is not absent, and if its bytes are known, those from the place on are left
+-- a file is open at a place, if contracts see this of it: it is not absent, and if its bytes are known, those from the place on are left
 pub record StandsAt (contents : Contents) (at : ℕ) (left : Option (List ℕ)) : Type 0 where
   pub there : contents ≢ absent
   pub rest : (bytes : List ℕ) → contents ≡ file bytes → left ≡ Some (drop at bytes)
@@ -51,12 +51,12 @@ KeepsFront contents before now = IsFront contents before → IsFront contents no
 abbrev pub EndsAt : Contents → List ℕ → List ℕ → Type 0
 EndsAt contents before now = IsFront contents before → IsWhole contents now
 
--- files in memory, if a name that is not listed is a file without bytes
+-- files in memory; a name that is not listed is a file without bytes
 abbrev pub file_or_empty : Option (Vec ℕ Global) → Contents
 file_or_empty None = file []
 file_or_empty (Some bytes) = file bytes.items
 
--- files in memory, if a name that is not listed has no file
+-- files in memory; a name that is not listed has no file
 abbrev pub file_or_absent : Option (Vec ℕ Global) → Contents
 file_or_absent None = absent
 file_or_absent (Some bytes) = file bytes.items

@@ -1,4 +1,4 @@
--- What a call leaves of the inputs.
+-- How a call changes the inputs.
 use Rattle.std.specs.Prelude.{◌≡◌, ◌≤◌, ℕ, List}
 use Rattle.mh_outside.specs.Contents.{Contents}
 

@@ -1,8 +1,8 @@
 ghost use Rattle.std.specs.Prelude.{◌≡◌, ◌≤◌, length};
 ghost use Rattle.mh_outside.specs.Contents.{ReadsFrom};
 
-/// Copies what lies from a place on, as far as there is room for it, and says how many bytes that
-/// were: how files in memory are read.
+/// Copies the bytes from a place on, as far as there is room, and says how many they were. Files in
+/// memory are read in this way.
 pub fn copy_from(bytes: &[u8], at: u64, buf: &mut [u8]) -> usize
     ensures count { result ≤ length buf.new }
     ensures bytes { ReadsFrom bytes.now at result buf.new }

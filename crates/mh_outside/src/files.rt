@@ -15,20 +15,21 @@ struct Opened<F: Drop> {
     at: u64,
 }
 
-/// Files that are opened by their names. One that is read from its front on is opened once, and read
-/// on where the last piece ended. Contracts do not see how far they are read.
+/// Files that are opened by their names. A file that is read from its front is opened once, and is
+/// read on from the end of the last piece. Contracts do not see how far they are read.
 #[derive(Drop)]
 pub struct OpenedInputs<O: Opens + Drop> {
     opener: O,
     alloc: Global,
     opened: Option<Opened<O::File>>,
-    /// How many calls failed; the count of every name.
+    /// How many calls failed; it is the count for every name.
     pub faults: u64,
     ghost stands: { ForSome opened (λ last. StandsAt (O.contents opener (string_bytes last.name)) last.at
         (O.File.remaining last.file)) },
 }
 
-// The file of a name at a place: the one that was read last where it stands there, else it is opened.
+// The file of a name at a place: the one that was read last, if it is at that place; otherwise it
+// is opened.
 fn file_at<O: Opens>(
     opener: &O,
     last: Option<Opened<O::File>>,
@@ -50,8 +51,8 @@ fn file_at<O: Opens>(
 }
 
 impl<O: Opens + Drop> OpenedInputs<O> {
-    /// The files that are opened so, of which none is open yet. The allocator is for the name of the
-    /// file that is open.
+    /// The files that are opened so; none is open yet. The allocator is for the name of the file
+    /// that is open.
     pub fn new(alloc: Global, opener: O) -> Self
         ensures { result.faults ≡ 0 }
     {
@@ -63,8 +64,8 @@ impl<O: Opens + Drop> OpenedInputs<O> {
         }
     }
 
-    // Keeps a file that stands at a place. Without memory for the name it is opened again for the
-    // next piece.
+    // Keeps a file that is at a place. Without memory for the name it is opened again for the next
+    // piece.
     fn keep(&mut self, name: &str, at: u64, file: O::File)
         requires { StandsAt (O.contents self.old.opener name.now) at (O.File.remaining file) }
         ensures still { self.new.faults ≡ self.old.faults }

@@ -1,8 +1,8 @@
 use std::hint;
 use std::sync::atomic::{AtomicBool, Ordering};
 
-/// Where a thread may be held for a while, before and after it records the linkage of a site. A gate
-/// changes nothing and its calls answer nothing. Tests use one to bring about a given order of
+/// A gate may hold a thread for a while, before and after it records the linkage of a site. It
+/// changes nothing, and its calls answer nothing. Tests use one to bring about a given order of
 /// threads.
 pub trait Gate {
     /// Called by a thread that is about to record the linkage of a site.
@@ -35,7 +35,7 @@ const TURNS: u64 = 2_000_000_000;
 /// holds thread 1 before it records until thread 0 has come to record too, and thread 0 until thread
 /// 1 has recorded. Other threads pass at once.
 ///
-/// Each of the two is held for 2,000,000,000 looks at most, so that nothing hangs where the other
+/// Each of the two is held for 2,000,000,000 looks at most, so that nothing hangs if the other
 /// thread never comes.
 #[derive(Drop)]
 pub struct TestGate {
@@ -63,7 +63,7 @@ impl TestGate {
 }
 
 impl Default for TestGate {
-    /// A gate to which nobody has come.
+    /// A gate before any thread has come to it.
     fn default() -> Self {
         TestGate {
             loser_came: AtomicBool::new(false),

@@ -35,7 +35,7 @@ pub trait Inputs {
     ghost starts: { Self → ℕ };
 
     /// Reads bytes of the file from the place `at` on, into the front of the buffer, and says how
-    /// many. It is none only where the buffer is empty or the file ends at `at` or before. A name that
+    /// many. It is none only if the buffer is empty or the file ends at `at` or before. A name that
     /// cannot be opened is a fault.
     fn read(&mut self, name: &str, at: u64, buf: &mut [u8]) -> Result<usize, Failed>
         ensures contents { (n : List ℕ) → contents self.new n ≡ contents self.old n }

@@ -16,16 +16,16 @@ pub struct MemoryInputs {
     pub fail: Vec<u64>,
     /// How many calls were made.
     pub calls: u64,
-    /// How many calls failed; the count of every name.
+    /// How many calls failed; it is the count for every name.
     pub faults: u64,
-    /// How many bytes from the front of a file a call has asked for; the most of every name.
+    /// How many bytes from the front of a file a call has asked for, at most, over all names.
     pub reached: u64,
     /// How many calls have read a file from its front.
     pub starts: u64,
 }
 
 impl MemoryInputs {
-    /// Files of which no call was made yet, and the numbers of the calls that are to fail.
+    /// Files before the first call, and the numbers of the calls that are to fail.
     pub fn new(files: BTreeMap<String, Vec<u8>>, fail: Vec<u64>) -> MemoryInputs
         ensures { result
             ≡ record {
@@ -58,7 +58,7 @@ impl Inputs for MemoryInputs {
     ghost starts = { λ s. s.starts };
 
     fn read(&mut self, name: &str, at: u64, buf: &mut [u8]) -> Result<usize, Failed>
-        // Just the listed calls fail, and those for a name that has no file.
+        // Only the listed calls fail, and those for a name that has no file.
         ensures fails { is_err result ≡ (is_listed self.old.fail.items self.old.calls
             || is_none (get_by_text self.old.files name.now)) }
         ensures calls { CountsCall self.old.calls self.new.calls

@@ -13,8 +13,8 @@ pub struct RealFiles<'r, R> {
     rt: &'r R,
 }
 
-// A file that stands at its front, moved to a place. At place 0 it is left as it is, so that what
-// cannot be moved can be read.
+// A file at its front, moved to a place. At place 0 it is left as it is, so that a file that cannot
+// be moved can be read.
 fn moved<F: Seek + Drop>(mut file: F, at: u64) -> io::Result<F>
     ensures { IfSome (F.stream_position file) (λ front. front ≡ 0
         → IfOk result (λ moved. IfSome (F.stream_position moved) (λ place. place ≡ at))) }

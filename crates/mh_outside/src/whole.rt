@@ -81,9 +81,9 @@ fn read_piece<I: Inputs>(
     }
 }
 
-/// Reads a file to its end. It is `TooLong` once a byte past the limit was taken, and `ReadFault`
-/// at the first read that fails. It asks for one byte past the limit, and for none after it, and
-/// begins at the front once, so that a pipe serves.
+/// Reads a file to its end. The answer is `TooLong` once a byte past the limit was taken, and
+/// `ReadFault` at the first read that fails. It asks for one byte past the limit and for no more.
+/// It begins at the front once, so that a pipe can be read.
 pub fn read_whole<I: Inputs>(
     alloc: Global,
     inputs: &mut I,
@@ -100,14 +100,14 @@ pub fn read_whole<I: Inputs>(
     ensures fault { IsErrOf result ReadWhole.ReadFault
         → Rose (I.faults inputs.old name.now) (I.faults inputs.new name.now) }
 
-    // A read that failed is never answered as want of memory.
+    // A read that failed is never answered as lack of memory.
     ensures memory { IsErrOf result ReadWhole.NoMemory
         → AreSame (I.faults inputs.old) (I.faults inputs.new) }
 
     ensures reads { ReadsOnce (limit + 1) 1 (I.reached inputs.old) (I.reached inputs.new)
         (I.starts inputs.old) (I.starts inputs.new) }
 
-    // Where a file is within the limit, `file` excludes that it is longer; so TooLong is exact.
+    // If a file is within the limit, `file` excludes that it is longer; so TooLong is exact.
     ensures too_long { IsErrOf result ReadWhole.TooLong
         → MayBeLonger (I.contents inputs.old name.now) limit }
     ensures too_long_still { IsErrOf result ReadWhole.TooLong

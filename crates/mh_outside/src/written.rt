@@ -12,7 +12,7 @@ pub struct WriterSink<W> {
 }
 
 impl<W: Write> WriterSink<W> {
-    /// A writer of which no write has failed yet.
+    /// A writer before its first write.
     pub fn new(writer: W) -> Self
         ensures fresh { result.faults ≡ 0 }
         ensures writer { result.writer ≡ writer }

@@ -19,7 +19,7 @@ types_of_piece (piece.Arg t) = t ∷ []
 abbrev pub arg_types : List Piece → List Ty
 arg_types pieces = flat_map types_of_piece pieces
 
--- the text of an argument; where none is left, there is none
+-- the text of an argument; if none is left, there is none
 abbrev pub next_text : List Class → List Value → List ℕ
 next_text classes [] = []
 next_text classes (v ∷ vs) = text_of classes v
@@ -29,7 +29,7 @@ abbrev pub piece_text : List Class → Piece → List Value → List ℕ
 piece_text classes (piece.Lit s) args = s
 piece_text classes (piece.Arg t) args = next_text classes args
 
--- what is left after a piece, of arguments or of the places at which they stand
+-- what is left after a piece: of arguments, or of their places
 abbrev pub args_after : {A : Type 0} → Piece → List A → List A
 args_after (piece.Lit s) args = args
 args_after (piece.Arg t) args = drop 1 args
@@ -39,7 +39,7 @@ abbrev pub joined_text : List Class → List Piece → List Value → List ℕ
 joined_text classes [] args = []
 joined_text classes (p ∷ ps) args = piece_text classes p args ++ joined_text classes ps (args_after p args)
 
--- what pieces join to: that text, where it is not too long for a value
+-- what pieces join to: that text, if it is not too long for a value
 abbrev pub joined : List Class → List Piece → List Value → Outcome
 joined classes pieces args = text (joined_text classes pieces args)
 

@@ -40,7 +40,7 @@ abbrev pub arg_of : List Ty → List Piece
 arg_of [] = []
 arg_of (t ∷ ts) = piece.Arg t ∷ []
 
--- the piece of the next constant; its characters are text, the tags among them too
+-- the piece of the next constant; its characters are text, even the tags
 abbrev pub constant_of : List Class → List Value → List Piece
 constant_of classes [] = []
 constant_of classes (v ∷ vs) = lit_of (text_of classes v)
@@ -59,7 +59,7 @@ spelled_pieces classes recipe types constants = pieces_after classes [] recipe t
 
 -- ---- refusals
 
--- how often a character stands in a recipe
+-- how often a character is in a recipe
 abbrev pub tags_in : ℕ → List ℕ → ℕ
 tags_in tag recipe = count_by (λ c. c == tag) recipe
 
@@ -68,8 +68,8 @@ abbrev pub returns_text : List Class → Option Ty → Bool
 returns_text classes None = false
 returns_text classes (Some t) = is_type_below classes string_type t
 
--- the first thing that is wrong: too many slots, a number of arguments that is not that of the parameters, a return type that no text has,
--- a number of constants that is not that of those given
+-- The first thing that is wrong, in this order: too many slots, another number of arguments than of parameters, a return type that no text has, another number
+-- of constants than was given.
 abbrev pub refusal_of : List Class → List ℕ → List Value → MethodTy → Option (List ℕ)
 refusal_of classes recipe constants t =
     if not (nat_le (slots_of_all t.params) most_concat_slots) then Some (codes "slots")
@@ -86,7 +86,7 @@ unless_wrong (Some message) pieces = Err (saying string_concat_class message)
 abbrev pub pieces_of : List Class → List ℕ → List Value → MethodTy → Result (List Piece) Exc
 pieces_of classes recipe constants t = unless_wrong (refusal_of classes recipe constants t) (spelled_pieces classes recipe t.params constants)
 
--- what a reader of recipes answers: the pieces of the recipe, or the exception that it has in place of pieces; want of memory tells nothing
+-- what a reader of recipes answers: the pieces of the recipe, or the exception that it has in place of pieces; about lack of memory nothing is said
 abbrev pub TellsPieces : Result (List Piece) RecipeError → Result (List Piece) Exc → Type 0
 TellsPieces (Ok pieces) meaning = meaning ≡ Ok pieces
 TellsPieces (Err recipe_error.NoMemory) meaning = Unit {0}

@@ -23,7 +23,7 @@ bool_text false = codes "false"
 abbrev pub is_surrogate : ℕ → Bool
 is_surrogate unit = nat_le 0xD800 unit && nat_lt unit 0xE000
 
--- the character of a char; a half of a surrogate pair stands here without its other half, so it is U+FFFD, the replacement character
+-- the character of a char; a half of a surrogate pair is here without its other half, so it is U+FFFD, the replacement character
 abbrev pub char_of : ℕ → ℕ
 char_of unit = if is_surrogate unit then 0xFFFD else unit
 
@@ -52,7 +52,7 @@ hexadecimal n = digits 16 false n
 abbrev pub object_text : List Class → ClassId → ℕ → List ℕ
 object_text classes c n = dotted_name classes c ++ codes "@" ++ hexadecimal n
 
--- what stands after the class of an exception: its message, where that is not empty
+-- what follows the class of an exception: its message, if that is not empty
 abbrev pub message_text : List ℕ → List ℕ
 message_text [] = []
 message_text (c ∷ cs) = codes ": " ++ c ∷ cs
@@ -61,7 +61,7 @@ message_text (c ∷ cs) = codes ": " ++ c ∷ cs
 abbrev pub thrown_text : List Class → Exc → List ℕ
 thrown_text classes e = dotted_name classes e.class ++ message_text e.message
 
--- an array: the name of its class (`Class.getName`), and 0 as its number, which it has none of
+-- an array: the name of its class (`Class.getName`), and 0, since an array has no number
 abbrev pub array_text : List Class → Comp → List ℕ
 array_text classes c = type_written (dotted_name classes) (ty.Array c) ++ codes "@0"
 

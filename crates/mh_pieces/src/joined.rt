@@ -9,8 +9,8 @@ use mh_base::{Frozen, NoMemory, Seq};
 use mh_values::{ClassId, Classes, Exc, Items, MOST_CHARACTERS, Outcome, Value};
 use std::alloc::Global;
 
-/// What is left after a piece, of arguments or of the places at which they stand: a piece that takes
-/// an argument takes the first.
+/// What is left after a piece, of arguments or of their places: a piece that takes an argument
+/// takes the first.
 pub fn args_after<'a, T>(piece: &Piece, args: &'a [T]) -> &'a [T]
     ensures { result.now ≡ args_after piece.now args.now }
 {
@@ -30,7 +30,7 @@ fn next_length(args: &[Value], classes: &Classes) -> usize
     }
 }
 
-/// The number of characters of a piece's text, likewise.
+/// The number of characters of a piece's text, in the same way.
 fn piece_length(piece: &Piece, args: &[Value], classes: &Classes) -> usize
     ensures { result ≡ min (length (piece_text classes.now piece.now args.now)) (2 ^ 64 - 1) }
 {
@@ -40,7 +40,7 @@ fn piece_length(piece: &Piece, args: &[Value], classes: &Classes) -> usize
     }
 }
 
-/// The number of characters that pieces join to, where they are not too many for a text. No piece
+/// The number of characters that pieces join to, if they are not too many for a text. No piece
 /// is looked at after the one that makes them too many.
 fn joined_length(pieces: &[Piece], args: &[Value], classes: &Classes) -> Option<usize>
     ensures { result ≡ short_length (joined_text classes.now pieces.now args.now) }

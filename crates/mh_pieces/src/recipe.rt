@@ -18,8 +18,8 @@ const MOST_CONCAT_SLOTS: u64 = 200;
 
 const STRING: Ty = Ty::Class(ClassId::STRING);
 
-/// Why a recipe has no pieces: no memory is left, or it goes with no such call site, with the
-/// exception that the call site then throws.
+/// Why a recipe has no pieces: no memory is left, or it does not fit the call site, with the
+/// exception that is then thrown.
 #[derive(Debug, Drop)]
 pub enum RecipeError {
     NoMemory,
@@ -37,7 +37,7 @@ impl From<NoMemory> for RecipeError {
     }
 }
 
-/// How often a character stands in a recipe.
+/// How often a character is in a recipe.
 fn tags_in(recipe: &[char], tag: char) -> usize
     ensures { result ≡ tags_in tag recipe.now }
 {
@@ -77,7 +77,7 @@ fn refusal_of(
     }
 }
 
-/// Puts a text after other pieces, where it is not empty.
+/// Puts a text after other pieces, if it is not empty.
 fn push_lit(pieces: &mut Seq<Piece>, text: Str) -> Result<(), NoMemory>
     ensures { OnOk result (pieces.new ≡ pieces.old ++ lit_of text) }
 {
@@ -165,8 +165,8 @@ fn spelled_pieces(
 }
 
 /// The pieces of a recipe of `StringConcatFactory.makeConcatWithConstants`: U+0001 is the next
-/// argument, U+0002 the next constant, and any other character itself. A text among the constants is
-/// shared. A recipe that does not go with the constants and the method type is refused.
+/// argument, U+0002 the next constant, and any other character itself. A text among the constants
+/// is shared. A recipe that does not fit the constants and the method type is refused.
 pub fn read_recipe(
     alloc: Global,
     recipe: &Str,

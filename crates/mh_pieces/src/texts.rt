@@ -11,7 +11,7 @@ use mh_base::{Frozen, NoMemory, Seq};
 use mh_values::{ClassId, Classes, Comp, Exc, Num, Str, Value};
 use std::alloc::Global;
 
-/// What stands for a half of a surrogate pair.
+/// The character that is written for a half of a surrogate pair.
 const REPLACEMENT: char = '\u{FFFD}';
 
 /// Writes ASCII characters.

@@ -20,7 +20,7 @@ module _ {P E : Type 0} (is_of : Lane P E → Type 0) (step : P → ℕ → Opti
     pub view : view after.place ≡ tally 1 [] after.work.taken.items
     pub did : Did step has before.work.pass (done_by after.work)
 
--- there are as many after as before, and each was done with the one at its place
+-- there are as many lanes after as before, and each comes from the one at its place
 pub record HaveWorked {A B : Type 0} (done : A → B → Type 0) (before : List A) (after : List B) : Type 0 where
   pub count : length after ≡ length before
   pub each : (i : ℕ) (d : A) (e : B) → i < length before → done (slice_index_or before i d) (slice_index_or after i e)

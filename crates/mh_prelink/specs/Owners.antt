@@ -24,7 +24,7 @@ module _ {A R P E : Type 0} where
       pub from : P
       pub goes : Goes step has room bound from mine
 
-    -- what it did, and where it did not stop, that the deque was found empty
+    -- what it did, and if it did not stop, that the deque was found empty
     pub record HasPopped (owner : Worker ℕ A Tally R) (mine : Work P E) (owner' : Worker ℕ A Tally R) (mine' : Work P E) : Type 0 where
       pub more : TalliesGrow owner mine owner' mine'
       pub ended : (p : P) → Goes step has room bound p mine → Ended step has room bound p mine'

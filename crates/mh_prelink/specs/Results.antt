@@ -15,7 +15,7 @@ module _ {P E : Type 0} where
   abbrev pub NoneStopped : List (Worked P E) → Type 0
   NoneStopped ws = All (λ w. w.stop ≡ None) ws
 
-  -- each worker comes from the pass at its place; no number was taken twice, and where none stopped, each number below the count was taken
+  -- each worker comes from the pass at its place; no number was taken twice, and if none stopped, each number below the count was taken
   pub record AllLinked (step : P → ℕ → Option E → P → Type 0) (has : P → ℕ → Type 0) (count : ℕ) (before : List P) (after : List (Worked P E)) : Type 0 where
     pub did : HaveWorked (Did step has) before after
     pub below : All (λ x. x < count) (all_taken after)

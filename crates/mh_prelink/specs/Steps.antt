@@ -18,13 +18,13 @@ module _ {P E : Type 0} (step : P → ℕ → Option E → P → Type 0) where
   abbrev pub Went : P → List ℕ → P → Type 0
   Went = FoldsTo (λ p x q. step p x None q)
 
-  -- one step for each number, in order, and none has a stop, but for the last of a worker that stopped
+  -- one step for each number, in order; none has a stop, except the last of a worker that stopped
   abbrev pub WentUntil : P → List ℕ → Option E → P → Type 0
   WentUntil p xs None q = Went p xs q
   WentUntil p xs (Some e) q = (ys : List ℕ) × (y : ℕ) × (m : P) × (xs ≡ ys ++ y ∷ []) × Went p ys m × step m y (Some e) q
 
 module _ {P E : Type 0} (has : P → ℕ → Type 0) where
-  -- the pass has each item of the list, but for the last of a worker that stopped
+  -- the pass has each item of the list, except the last of a worker that stopped
   abbrev pub HasUntil : P → List ℕ → Option E → Type 0
   HasUntil p xs None = All (has p) xs
   HasUntil p xs (Some e) = (ys : List ℕ) × (y : ℕ) × (xs ≡ ys ++ y ∷ []) × All (has p) ys
@@ -44,7 +44,7 @@ module _ {P E : Type 0} (step : P → ℕ → Option E → P → Type 0) (has : 
       pub left : room w.pass (bound - vec_len w.taken)
       pub capacity : bound ≤ vec_capacity w.taken
 
-    -- what it did, and where it did not stop, that it can take all other numbers
+    -- what it did, and if it did not stop, that it can take all other numbers
     pub record Ended (p : P) (w : Work P E) : Type 0 where
       pub did : Did p (done_by w)
       pub goes : w.stop ≡ None → Goes p w

@@ -1,4 +1,4 @@
--- The rule of the deque: what was put in is what was taken and what it holds, however the numbers are weighed.
+-- The rule of the deque: what was put in weighs as much as what was taken and what it holds, whatever weights numbers have.
 use Rattle.std.specs.Prelude.{◌≡◌, ℕ, ◌+◌, ◌-◌, ◌<◌, ◌≤◌, List, [], ◌++◌, length, sum_by, All}
 use lib.ListN.{get_elem?}
 use mathlib.Core.Option.{some}
@@ -12,7 +12,7 @@ tally parts put taken = record { parts = parts; put = put; taken = taken }
 abbrev pub whole : ℕ
 whole = 1024
 
--- these numbers weigh the same, however each is weighed
+-- these numbers weigh the same, whatever weights numbers have
 abbrev pub WeighSame : List ℕ → List ℕ → Type 0
 WeighSame xs ys = (h : ℕ → ℕ) → sum_by h xs ≡ sum_by h ys
 
@@ -20,8 +20,8 @@ WeighSame xs ys = (h : ℕ → ℕ) → sum_by h xs ≡ sum_by h ys
 abbrev pub IsIdle : Tally → Type 0
 IsIdle v = v.parts ≡ 0 → (v.put ≡ []) × (v.taken ≡ [])
 
--- the rule: the views have all parts; what they have put in weighs what they have taken and what the deque holds; that is below the bound, and no more
--- numbers were put in than it says
+-- The rule. The views have all parts. What they have put in weighs as much as what they have taken and what the deque holds together. That is below the bound,
+-- and no more numbers were put in than it says.
 pub record Balanced (bound : ℕ) (items : List ℕ) (views : List Tally) : Type 0 where
   pub parts : sum_by (λ v. v.parts) views ≡ whole
   pub weighed : (h : ℕ → ℕ) → sum_by (λ v. sum_by h v.put) views ≡ sum_by (λ v. sum_by h v.taken) views + sum_by h items
@@ -39,11 +39,11 @@ pub record Took (bound : ℕ) (v : Tally) (xs : List ℕ) (w : Tally) : Type 0 w
   pub below : All (λ x. x < bound) xs
   pub few : length w.taken ≤ bound
 
--- where the deque is empty, the view that has all parts has taken what was put in
+-- if the deque is empty, the view that has all parts has taken what was put in
 abbrev pub NoneLeft : Tally → Type 0
 NoneLeft v = v.parts ≡ whole → WeighSame v.put v.taken
 
--- what was put in weighs what was taken and what is left
+-- what was put in weighs as much as what was taken and what is left together
 abbrev pub Weighed : Tally → List ℕ → Type 0
 Weighed v items = (h : ℕ → ℕ) → sum_by h v.put ≡ sum_by h v.taken + sum_by h items
 

@@ -1,5 +1,5 @@
-//! Workers beside each other that take numbers from one deque, each number once, and link the item
-//! of each.
+//! Concurrent workers that take numbers from one deque, each number once, and link the item of
+//! each.
 #![tactic(auto)]
 
 mod linking;

@@ -17,7 +17,7 @@ pub trait Linking {
     // The pass has the item.
     ghost has: { Self → Self.Pass → ℕ → Type 0 };
 
-    // The pass has room for so many items.
+    // The pass has room for this many items.
     ghost room: { Self → Self.Pass → ℕ → Type 0 };
 
     // How many items there are.

@@ -12,7 +12,7 @@ use crate::linking::Linking;
 use crate::rule::{Bound, Putting, Total};
 use crate::thieves::{Thief, fork_all, gather, steal_beside};
 use crate::worked::{Lane, Passes, Work, Worked, Workers};
-use crate::working::{Owner, ended, pop_all, ready};
+use crate::working::{Owner, finish_work, pop_all, ready};
 use mh_base::NoMemory;
 use std::alloc::Global;
 use std::marker::Brand;
@@ -122,7 +122,7 @@ fn work_beside<N: Bound + Send + Sync, L: Linking + Sync, R: Threads + Wait + Sy
     (owner, mine, thieves)
 }
 
-// Once all parts are one again, a worker that did not stop looks whether nothing is left.
+// Once all parts are joined again, a worker that did not stop looks whether nothing is left.
 fn finish<N: Bound, L: Linking, R: Wait>(
     rt: &R,
     linking: &L,
@@ -176,7 +176,7 @@ fn carry_out<N: Bound + Send + Sync, L: Linking + Sync, R: Threads + Wait + Sync
     gather::<N, L::Pass, L::Stop>(&mut owner, thieves, &mut workers);
     finish::<N, L, R>(rt, linking, &mut owner, &mut mine);
     owner.len_as::<Total>();
-    let Ok(()) = workers.insert(0, ended(mine)) else {
+    let Ok(()) = workers.insert(0, finish_work(mine)) else {
         unreachable!()
     };
     workers
@@ -213,7 +213,7 @@ fn prelink_named<N: Bound + Send + Sync, L: Linking + Sync, R: Threads + Wait + 
 
 /// Links the items below the count by as many workers as there are passes, the first of them in the
 /// caller's thread. Each takes numbers from one deque, until it finds that empty or its linking
-/// stops; `prelink` waits for all of them. All memory is taken first: where there is not enough,
+/// stops; `prelink` waits for all of them. All memory is taken first: if there is not enough,
 /// nothing was linked, and the passes are dropped.
 pub fn prelink<L: Linking + Sync, R: Threads + Wait + Sync>(
     rt: &R,

@@ -1,4 +1,4 @@
-// The deque: its rule, and what each call of it is told.
+// The deque: its rule, and what each call of it may know.
 ghost use Rattle.std.specs.Prelude.{ℕ, []};
 ghost use Rattle.mh_prelink.specs.Tallies.{Balanced, tally, whole, Took, PutIn, NoneLeft, Weighed, kept_back, of_thief, both_tallies};
 
@@ -64,7 +64,7 @@ impl Join<Tally> for Both {
     ghost spent = { tally 0 [] [] };
 }
 
-/// What the port learns that has all parts.
+/// What the port that has all parts learns.
 pub struct Total;
 
 impl Lesson<u32, Tally> for Total {

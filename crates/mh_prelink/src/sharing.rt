@@ -21,10 +21,10 @@ pub trait SharesOut: Linking {
     // How many workers there are.
     ghost workers: { Self → ℕ };
 
-    // What holds of the state where these passes were split off.
+    // What holds of the state after these passes were split off.
     ghost split_off: { Self → Self.State → List Self.Pass → Type 0 };
 
-    // What holds of the state where the workers after were joined, which had the passes before.
+    // What holds of the state after these workers were joined; they began with these passes.
     ghost joined: { Self → List Self.Pass → List (Worked Self.Pass Self.Stop) → Self.State
         → Type 0 };
 
@@ -82,7 +82,7 @@ pub trait SharesOut: Linking {
             → OnOk result (joined self.now before (after ++ worked pass taken (Some stop) ∷ [])
             state.new) };
 
-    /// Where all passes were split off, no worker is joined yet. It does nothing when it runs.
+    /// Once all passes are split off, no worker is joined yet. It does nothing when it runs.
     fn start(&self, state: &Self::State)
         ensures { (passes : List Self.Pass) → split_off self.now state.now passes
             → length passes ≡ workers self.now → joined self.now passes [] state.now };
@@ -149,7 +149,7 @@ fn join_all<T: SharesOut>(
 }
 
 /// Splits the passes off, links all items by as many workers, and joins the workers again, in the
-/// order in which their passes were split off. It fails only where no memory is left.
+/// order in which their passes were split off. It fails only if no memory is left.
 pub fn share_out<T: SharesOut + Sync, R: Threads + Wait + Sync>(
     rt: &R,
     alloc: Global,

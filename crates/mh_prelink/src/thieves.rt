@@ -8,7 +8,7 @@ use crate::linking::Linking;
 use crate::rule::{Both, Bound, Cut, Fair, Taking};
 use crate::tally::Tally;
 use crate::worked::{Lane, Worked};
-use crate::working::{Owner, ended, ready, take_on};
+use crate::working::{Owner, finish_work, ready, take_on};
 use crossbeam_deque::{Steal, Stealer};
 use mh_base::NoMemory;
 use std::alloc::Global;
@@ -126,6 +126,6 @@ pub(crate) fn gather<N: Bound, P: Drop, E: Drop>(
     for lane in lanes {
         let Lane { place, work } = lane;
         owner.absorb::<Both>(place);
-        workers.push_reserved(ended(work));
+        workers.push_reserved(finish_work(work));
     }
 }

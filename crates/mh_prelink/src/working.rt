@@ -90,7 +90,7 @@ pub(crate) fn pop_all<N: Bound, L: Linking, R: Wait>(
 }
 
 /// What a worker did, once it has ended.
-pub(crate) fn ended<P: Drop, E: Drop>(work: Work<P, E>) -> Worked<P, E>
+pub(crate) fn finish_work<P: Drop, E: Drop>(work: Work<P, E>) -> Worked<P, E>
     ensures { result ≡ done_by work }
 {
     let Work { pass, taken, stop } = work;

@@ -33,7 +33,7 @@ types_with given threads = plan_types given.leaves threads ++ sites_types given 
 
 -- ---- with or without workers
 
--- how many form numbers a run can draw that has so many workers
+-- how many form numbers a run with this many workers can draw
 abbrev pub draws_by : Given → ℕ → List (List Call) → ℕ
 draws_by given zero threads = draws_needed given threads
 draws_by given (suc more) threads = draws_with given (suc more) threads

@@ -1,4 +1,5 @@
--- What the calls of a run leave of its work, by the recipes that its attempts and its calls make.
+-- How the calls of a run change its work, by the recipes and types that its attempts and its calls ask for. The relations are steps, and steps compose: each
+-- takes what was asked for before some calls, and gives what was asked for after them. A new pass has asked for nothing.
 use Rattle.std.specs.Prelude.{◌≡◌, ℕ, ◌*◌, List, ◌++◌, length, Result, Ok, Err}
 use Rattle.std.specs.List.{flat_map}
 use Rattle.mh_values.specs.declared.types.MethodTy.{MethodTy}
@@ -37,8 +38,8 @@ plan_draws threads = call_draws * calls_in threads
 abbrev pub run_edits : Given → List Attempt → List (List Key) → List (List Key)
 run_edits given attempts edits = flat_map (attempt_edits given) attempts ++ edits
 
--- where the recipes were asked for of the attempts before and of calls, whichever, those of the attempts after and of more calls are now, and numbers were
--- drawn for no others
+-- A step of calls that make the recipes `more`; the pass has the attempts `before` and then `after`. If it had asked for the recipes of the attempts before and
+-- of any other calls (`edits`), it has now asked for those of the attempts after, of the same calls, and `more`. Numbers were drawn for no other recipes.
 pub record HasRunOn (given : Given) (before after : List Attempt) (more : List (List Key)) (old new : PassView) : Type 0 where
   pub asked : (edits : List (List Key)) → HasAsked (run_edits given before edits) old → HasAsked (run_edits given after (edits ++ more)) new
   pub within : (whole : ℕ) → DrawsWithin whole old → DrawsWithin whole new
@@ -49,7 +50,7 @@ HasRunOut given before after more old new =
     (whole : ℕ) → DrawsWithin whole old → (edits : List (List Key)) → HasAsked (run_edits given before edits) old
     → HasDrawn whole (run_edits given after (edits ++ more)) new
 
--- what is known where calls stopped: for want of forms, that the last number drawn is no form's; for want of memory, nothing
+-- what is known if calls stopped: for lack of forms, that the last number drawn is no form's; for lack of memory, nothing
 abbrev pub RunStops : Given → List Attempt → List Attempt → List (List Key) → PassView → PassView → WorkError → Type 0
 RunStops given before after more old new (FormsFull drawn) = HasRunOut given before after more old new × IsOver drawn new
 RunStops given before after more old new (TypesFull bucket) = HasRunOut given before after more old new
@@ -60,7 +61,7 @@ abbrev pub RunsOn : {A : Type 0} → Given → List Attempt → List Attempt →
 RunsOn given before after more old new (Ok a) = HasRunOn given before after more old new
 RunsOn given before after more old new (Err e) = RunStops given before after more old new e
 
--- P holds where no number was left for a form
+-- P holds if no number was left for a form
 abbrev pub IfFull : {A : Type 0} → Result A WorkError → Type 0 → Type 0
 IfFull (Err (FormsFull drawn)) P = P
 IfFull (Err (TypesFull bucket)) P = Unit {0}
@@ -77,14 +78,13 @@ run_types given attempts types = flat_map (attempt_types given) attempts ++ type
 abbrev pub WasAsked : List MethodTy → SeatView → Type 0
 WasAsked types seat = (t : MethodTy) → times_type t types ≡ 0 → times_type t seat.asked ≡ 0
 
--- where the seat was asked for none but the types of the attempts before and of calls, whichever, it was asked for none but those of the attempts after and of
--- more calls now
+-- A step of calls that ask for the types `more`. If the seat was asked only for types of the attempts before and of any other calls (`types`), it was asked
+-- only for those of the attempts after, of the same calls, and `more`.
 abbrev pub HasAskedOn : Given → List Attempt → List Attempt → List MethodTy → SeatView → SeatView → Type 0
 HasAskedOn given before after more old new =
     (types : List MethodTy) → WasAsked (run_types given before types) old → WasAsked (run_types given after (types ++ more)) new
 
--- what calls leave of a seat that ask for these types, and with which the attempts before become those after: where they stopped for want of a slot, a type
--- that the seat was asked for has none
+-- How calls that ask for the types `more` change a seat. If they stopped because no slot was left, some type that the seat was asked for has none.
 abbrev pub RunsOnTypes : {A : Type 0} → Given → List Attempt → List Attempt → List MethodTy → SeatView → SeatView → Result A WorkError → Type 0
 RunsOnTypes given before after more old new (Ok a) = HasAskedOn given before after more old new
 RunsOnTypes given before after more old new (Err (TypesFull bucket)) = HasAskedOn given before after more old new × HasNoSlot bucket new

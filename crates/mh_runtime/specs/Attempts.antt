@@ -36,7 +36,7 @@ pub record IsThreadRun (sites : List ℕ) (pass : LinkPass) : Type 0 where
 abbrev pub AttemptsMore : List ℕ → LinkPass → LinkPass → Type 0
 AttemptsMore more old new = (sites : List ℕ) → AreLinked old.linked sites → IsThreadRun sites old → IsThreadRun (sites ++ more) new
 
--- the pass stays with its linker and its thread, what it has linked stays so, and at most so many serials were drawn
+-- the pass stays with its linker and its thread, what it has linked stays so, and at most this many serials were drawn
 pub record GoesOnLinking (serials : ℕ) (old new : LinkPass) : Type 0 where
   pub linker : new.linker ≡ old.linker
   pub thread : new.thread ≡ old.thread

@@ -1,4 +1,5 @@
--- What is known of the passes of all threads of a run, and of the passes that they are joined to.
+-- What is known of the passes of all threads of a run, and of the passes that they are joined to. These are means of the proof of the ledger: each holds of one
+-- thread's passes after its calls, or of what the join gives, and the ledger follows from all of them together.
 use Rattle.std.specs.Prelude.{◌≡◌, ℕ, List, ◌++◌, length, map, Some, slice_get}
 use Rattle.std.specs.List.{All, flat_map, range_with_len}
 use Rattle.std.specs.List.Sorted.{IsPermutation}

@@ -52,13 +52,13 @@ pub record HasAllRoom {J : Type 0} (pass : Pass J) : Type 0 where
   pub forms : pass.forms.seat.room ≡ limit
   pub types : pass.types.room ≡ limit
 
--- the base has the room that so many splits give away, and more
+-- the base has more room than this many splits give away
 pub record HasRoomFor (splits : ℕ) (base : Base) : Type 0 where
   pub serials : split_room * splits < base.links.seat.room
   pub forms : split_room * splits < base.forms.seat.room
   pub holds : split_room * splits < base.types.room
 
--- what is left of the base where so many passes were split off: it has less room
+-- the base after this many passes were split off: it has less room
 pub record IsLeft {J : Type 0} (splits : ℕ) (base pass : Pass J) : Type 0 where
   pub links : pass.links ≡ with_seat (serials.with_less_room (split_room * splits) base.links.seat) base.links
   pub forms : pass.forms ≡ form_joins.with_seat (forms_seat.with_less_room (split_room * splits) base.forms.seat) base.forms
@@ -109,7 +109,7 @@ lanes_edits given lanes = flat_map (λ lane. run_edits given lane.pass.links.att
 abbrev pub lanes_types : {J : Type 0} → Given → List (Lane J) → List MethodTy
 lanes_types given lanes = flat_map (λ lane. run_types given lane.pass.links.attempts (thread_types given.leaves lane.calls.now)) lanes
 
--- what is known where a lane has stopped with this error, and that is reported
+-- what is known if a lane has stopped with this error, and the error is reported
 abbrev pub StopsFor : {J : Type 0} → Joined J → WorkError → Type 0
 StopsFor joined (FormsFull drawn) = IsOver drawn joined.pass.forms
 StopsFor joined (TypesFull bucket) = HasNoSlot bucket joined.pass.types × Knows joined.pass.types
@@ -124,25 +124,25 @@ EndsSoFar given base lanes joined None =
     × ((table : Serials) → HasSerials joined.pass.links.linked table → keys_said joined.threads ≡ plan_keys given table (calls_of lanes))
 EndsSoFar given base lanes joined (Some stop) = StopsFor joined stop.error
 
--- what is known of the numbers of forms that these lanes have drawn, of so many, where the base has asked for the recipes before
+-- what is known of the form numbers that these lanes have drawn, of this many, if the base has asked for the recipes before
 pub record KnowsDraws {J : Type 0} (given : Given) (before : List (List Key)) (base : PassView) (count : ℕ) (lanes : List (Lane J)) (joined : Joined J)
     : Type 0 where
   pub few : HaveDrawnFew given before (calls_of lanes) (map passes_of lanes)
   pub room : joined.pass.forms.seat.room + length joined.pass.forms.seat.numbers + split_room * count
       ≡ base.seat.room + length base.seat.numbers + split_room * length lanes
 
--- P holds where the error is want of forms
+-- P holds if the error is lack of forms
 abbrev pub IfForms : WorkError → Type 0 → Type 0
 IfForms (FormsFull drawn) P = P
 IfForms (TypesFull bucket) P = Unit {0}
 IfForms NoMemory P = Unit {0}
 
--- P holds where no lane has stopped, or want of forms is reported, since no lane had no memory then
+-- P holds if no lane has stopped, or if lack of forms is reported; then no lane lacked memory
 abbrev pub IfDrawsKnown : Option Stop → Type 0 → Type 0
 IfDrawsKnown None P = P
 IfDrawsKnown (Some stop) P = IfForms stop.error P
 
--- these lanes of so many were joined to the base: it has what it had, and what they have
+-- these lanes, of this many, were joined to the base: it has what it had, and what they have
 pub record AreJoinedSoFar {J : Type 0} (given : Given) (base : Pass J) (count : ℕ) (lanes : List (Lane J)) (joined : Joined J) : Type 0 where
   pub linker_is : joined.pass.links.linker ≡ base.links.linker
   pub table_is : joined.pass.forms.table ≡ base.forms.table

@@ -9,8 +9,8 @@ use Rattle.mh_plan.specs.declared.call.Call.{Call}
 use Rattle.mh_plan.specs.declared.call.Call.TheVariants.{Exact, Generic, Indy}
 use Rattle.mh_report.specs.Results.{Serials, serial_at}
 
--- the keys of the form that a call runs if sites are linked by these attempts: those of the leaf, of its use as the type of a generic
--- call, or of the site's target; none if the call throws before it runs either
+-- The keys of the form that a call runs if sites are linked by these attempts. They are those of the leaf, of its use as the type of a generic call, or of the
+-- site's target. There are none if the call throws before a form runs.
 abbrev pub keys_of : Given → Serials → Call → ℕ
 keys_of given table (Exact leaf ty args) = exact_keys given.leaves (tree.Leaf leaf) ty
 keys_of given table (Generic leaf ty args) = generic_keys given.leaves (tree.Leaf leaf) ty

@@ -54,13 +54,13 @@ DrawsFew given base calls passes =
     (before : List (List Key)) → HasAsked before base
     → HasDrawn split_room (run_edits given passes.links.attempts (before ++ thread_edits given.leaves calls)) passes.forms
 
--- the thread has asked for the forms that its calls and its attempts need, beside those that the base has asked for
+-- the thread has asked for the forms that its calls and its attempts need, in addition to those that the base has asked for
 abbrev pub AsksForms : Given → PassView → List Call → ThreadPasses → Type 0
 AsksForms given base calls passes =
     (before : List (List Key)) → HasAsked before base
     → HasAsked (run_edits given passes.links.attempts (before ++ thread_edits given.leaves calls)) passes.forms
 
--- what is known of the passes by how the calls ended: for want of memory nothing
+-- what is known of the passes by how the calls ended; if memory ran out, nothing
 abbrev pub EndsBy : Given → PassView → List Call → ThreadPasses → List Answer → Option WorkError → Type 0
 EndsBy given base calls passes answers None =
     DrawsFew given base calls passes × AsksForms given base calls passes × IsDoneBy calls passes × HasAnswered given calls passes.links answers
@@ -73,18 +73,18 @@ abbrev pub EndsAs : Given → PassView → List Call → ThreadPasses → Option
 EndsAs given base calls passes None = ⊥
 EndsAs given base calls passes (Some run) = EndsBy given base calls passes run.answers run.stop
 
--- where the calls have stopped for want of a slot, a type that the seat was asked for has none
+-- if the calls stopped because no slot was left, some type that the seat was asked for has none
 abbrev pub EndsWithoutSlot : Option WorkError → SeatView → Type 0
 EndsWithoutSlot None seat = Unit {0}
 EndsWithoutSlot (Some (TypesFull bucket)) seat = HasNoSlot bucket seat
 EndsWithoutSlot (Some (FormsFull drawn)) seat = Unit {0}
 EndsWithoutSlot (Some NoMemory) seat = Unit {0}
 
--- these attempts are of sites of which the base has learnt no linkage
+-- these attempts are of sites whose linkage the base has not learnt
 abbrev pub AreUnlearnt : LinkPass → List Attempt → Type 0
 AreUnlearnt base attempts = All (λ a. serial_at base.linked a.site ≡ None) attempts
 
--- a lane, whose pass was split off the base, that has run the calls of a thread: it knows the sites that the base knows, and has attempted none of them
+-- A lane whose pass was split off the base and that has run the calls of a thread. It knows the sites that the base knows, and has attempted none of them.
 pub record HasRun {J : Type 0} (given : Given) (base : Pass J) (thread : ℕ) (calls : List Call) (lane : Lane J) : Type 0 where
   pub linker_is : lane.pass.links.linker ≡ base.links.linker
   pub table_is : lane.pass.forms.table ≡ base.forms.table

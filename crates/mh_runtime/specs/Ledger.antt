@@ -22,7 +22,7 @@ pub record Ledger (naming : Naming) (sites : ℕ) (table : Serials) (attempts : 
   -- there is one entry for each site, and the serials are 1 to the number of attempts, in order
   pub entries : length table ≡ sites
   pub serials : map (λ a. a.serial) attempts ≡ range_with_len 1 (length attempts)
-  -- a site has a serial exactly where some call names it
+  -- a site has a serial if and only if some call names it
   pub named : (site : ℕ) (entry : Option ℕ) → slice_get table site ≡ Some entry → (IsSome entry ↔ IsNamed naming site)
   -- the attempt of that serial is one of that site
   pub own : (site serial : ℕ) → slice_get table site ≡ Some (Some serial)

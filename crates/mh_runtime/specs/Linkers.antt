@@ -58,8 +58,8 @@ pub record IsOf {J : Type 0} (given : Given) (linker : Linker J) (pass : Pass J)
   pub forms : IsPassOf linker.forms.now pass.forms
   pub types : pass.types.table ≡ linker.types.now
 
--- there is room for so many calls: each may draw a serial, and the numbers of forms that an attempt draws, and for each of these the types of a handle may be
--- held
+-- There is room for this many calls. Each may draw a serial and the form numbers of an attempt, and for each of these numbers the types of a handle may be
+-- held.
 pub record HasRoom {J : Type 0} (calls : ℕ) (pass : Pass J) : Type 0 where
   pub serials : calls ≤ pass.links.seat.room
   pub forms : call_draws * calls ≤ pass.forms.seat.room
@@ -83,7 +83,7 @@ pub record HasLessRoom {J : Type 0} (old new : Pass J) : Type 0 where
 abbrev pub pass_in : {J : Type 0} → LinkPass → Work → Pass J
 pass_in links w = record { links = links; forms = w.pass.now; types = w.seat.now }
 
--- a work with the run's leaves and a pass over the sites of this linker, which have room for so many calls
+-- a work with the run's leaves and a pass over the sites of this linker, which have room for this many calls
 pub record IsReadyFor (given : Given) (linker : LinkerView) (calls : ℕ) (links : LinkPass) (w : Work) : Type 0 where
   pub leaves : leaves_of w ≡ given.leaves
   pub linker_is : links.linker ≡ linker
@@ -131,7 +131,7 @@ pub record KeepsPass {J : Type 0} (old new : Pass J) : Type 0 where
 
 -- ---- calls
 
--- the pass stays with its linker, its tables and its thread, what it has learnt stays so, and at most the room for so many calls is gone
+-- The pass stays with its linker, its tables and its thread, and what it has learnt stays. At most the room for this many calls is used up.
 pub record GoesOnCalling {J : Type 0} (calls : ℕ) (old new : Pass J) : Type 0 where
   pub links : GoesOnLinking calls old.links new.links
   pub table : new.forms.table ≡ old.forms.table
@@ -140,8 +140,8 @@ pub record GoesOnCalling {J : Type 0} (calls : ℕ) (old new : Pass J) : Type 0 
   pub seat : new.types.table ≡ old.types.table
   pub holds : old.types.room ≤ new.types.room + most_held * (call_draws * calls)
 
--- a pass that had learnt a linkage of the site is as it was: no attempt was made and none recorded, no serial and no number of a form drawn, and no type asked
--- for or held
+-- A pass that had learnt a linkage of the site is as it was. No attempt was made or recorded, no serial or form number was drawn, and no type was asked for or
+-- held.
 pub record LeavesPass {J : Type 0} (old new : Pass J) : Type 0 where
   pub learns : LearnsSites old.links new.links
   pub recorded : new.links.recorded ≡ old.links.recorded

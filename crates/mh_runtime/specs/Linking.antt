@@ -16,7 +16,7 @@ use Rattle.mh_report.specs.declared.attempt.Attempt.{Attempt}
 abbrev pub types_held : Given → List Attempt → List MethodTy
 types_held given attempts = flat_map (λ a. held_by given.leaves (linked_at given a.site a.serial)) attempts
 
--- the new seat holds what the linkages of recorded attempts hold, and what the old seat held beside those of the attempts before
+-- the new seat holds what the linkages of recorded attempts hold, and what the old seat held in addition to those of the attempts before
 abbrev pub HoldsInstead : Given → List Attempt → List Attempt → SeatView → SeatView → Type 0
 HoldsInstead given before after old new =
     (t : MethodTy) → on_type t new.holds + times_type t (types_held given before) ≡ on_type t old.holds + times_type t (types_held given after)

@@ -33,8 +33,8 @@ pub record IsLinker (given : Given) (jobs : List Job) (scripts : List Script) (l
 
 -- ---- passes
 
--- a pass: its linker, its thread, the serial of the linkage that it has learnt of each site, the attempts made with it, those of them that it has recorded, and
--- the seat through which it draws serials
+-- A pass: its linker, its thread, and the serial of the linkage that it has learnt of each site. Also the attempts that were made with it, those that it has
+-- recorded, and the seat with which it draws serials.
 pub record LinkPass : Type 0 where
   pub linker : LinkerView
   pub thread : ℕ
@@ -51,7 +51,7 @@ site_of l = l.job.site
 abbrev pub serial_of : LinkageView → ℕ
 serial_of l = l.serial
 
--- the serial of the linkage of each site, where it was learnt
+-- the serial of the linkage of each site, if it was learnt
 abbrev pub linked_by : KnownView LinkageView → Serials
 linked_by known = map (option_map serial_of) known.values
 

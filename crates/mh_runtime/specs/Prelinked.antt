@@ -32,7 +32,7 @@ use Rattle.mh_runtime.specs.Workers.{AreSplitFor, Worker, first_of, most_workers
 
 -- ---- before the work
 
--- passes were split off the first pass for workers from this number on, of so many, and nothing was done yet
+-- passes were split off the first pass for workers from this number on, of this many, and nothing was done yet
 pub record AreSplitOff {J : Type 0} (given : Given) (linker : Linker J) (first count : ℕ) (passes : List (Pass J)) (state : Prelinked J) : Type 0 where
   pub leaves : linker.leaves.now ≡ given.leaves
   pub few_threads : first ≤ most_threads
@@ -52,7 +52,7 @@ DrawsOwn given w = HasDrawn split_room (run_edits given w.pass.links.attempts []
 abbrev pub AsksOwn : {J : Type 0} → Given → Worker J → Type 0
 AsksOwn given w = HasAsked (run_edits given w.pass.links.attempts []) w.pass.forms
 
--- what is known of it by how it ended: for want of memory nothing
+-- what is known of it by how it ended; if memory ran out, nothing
 abbrev pub EndsWork : {J : Type 0} → Given → Worker J → Option WorkError → Type 0
 EndsWork given w None = DrawsOwn given w × AsksOwn given w × AreLinked w.pass.links.linked w.taken
 EndsWork given w (Some (FormsFull drawn)) = DrawsOwn given w × IsOver drawn w.pass.forms
@@ -97,7 +97,7 @@ workers_types given workers = flat_map (λ w. run_types given w.pass.links.attem
 abbrev pub stops_of : {J : Type 0} → List (Worker J) → List (Option WorkError)
 stops_of workers = map (λ w. w.stop) workers
 
--- what is known where a worker has stopped with this error, and that is reported
+-- what is known if a worker has stopped with this error, and the error is reported
 abbrev pub StopsWork : {J : Type 0} → Pass J → WorkError → Type 0
 StopsWork pass (FormsFull drawn) = IsOver drawn pass.forms
 StopsWork pass (TypesFull bucket) = HasNoSlot bucket pass.types × Knows pass.types
@@ -112,12 +112,12 @@ abbrev pub WorkersEnd : {J : Type 0} → Given → List (Worker J) → Pass J �
 WorkersEnd given workers pass None = HaveLinked workers × HasAsked (workers_edits given workers) pass.forms
 WorkersEnd given workers pass (Some stop) = StopsWork pass stop.error
 
--- what is known of the numbers of forms that these workers have drawn, of so many
+-- what is known of the form numbers that these workers have drawn, of this many
 pub record KnowsOwnDraws {J : Type 0} (given : Given) (count : ℕ) (workers : List (Worker J)) (forms : PassView) : Type 0 where
   pub few : All (λ w. DrawsOwn given w) workers
   pub room : forms.seat.room + length forms.seat.numbers + split_room * count ≡ limit + split_room * length workers
 
--- these workers of so many were joined to the first pass
+-- these workers, of this many, were joined to the first pass
 pub record AreGathered {J : Type 0} (given : Given) (linker : Linker J) (first count : ℕ) (workers : List (Worker J)) (state : Prelinked J) : Type 0 where
   pub linker_is : state.pass.links.linker ≡ linker.sites
   pub table_is : state.pass.forms.table ≡ linker.forms.now
@@ -141,7 +141,7 @@ pub record AreGathered {J : Type 0} (given : Given) (linker : Linker J) (first c
   pub stop_is : state.stop ≡ stops_after first None (stops_of workers)
   pub ends : WorkersEnd given workers state.pass state.stop
 
--- these workers were joined of those for which passes were split off
+-- these workers were joined, of those that have passes
 pub record AreGatheredOf {J : Type 0} (given : Given) (linker : Linker J) (first count : ℕ) (before : List (Pass J)) (after : List (Worker J))
     (state : Prelinked J) : Type 0 where
   pub leaves : linker.leaves.now ≡ given.leaves
@@ -149,7 +149,7 @@ pub record AreGatheredOf {J : Type 0} (given : Given) (linker : Linker J) (first
   pub each : AreSplitFor given linker first before
   pub gathered : AreGathered given linker first count after state
 
--- all workers were joined, which have the numbers after those of the threads: no site was taken twice, and where none stopped, each was taken
+-- All workers, which have the numbers after those of the threads, were joined. No site was taken twice, and each was taken if none stopped.
 pub record IsPrelinked {J : Type 0} (given : Given) (linker : Linker J) (threads workers : ℕ) (state : Prelinked J) : Type 0 where
   pub all : List (Worker J)
   pub leaves : linker.leaves.now ≡ given.leaves

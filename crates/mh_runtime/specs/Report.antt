@@ -22,13 +22,13 @@ use Rattle.mh_runtime.specs.Ledger.{Ledger, PrelinkedLedger}
 use Rattle.mh_runtime.specs.Passes.{IsRecorded}
 use Rattle.mh_runtime.specs.Stops.{outside}
 
--- the ledger of a run of a plan with so many workers
+-- the ledger of a run of a plan with this many workers
 abbrev pub LedgerBy : ℕ → List (List Call) → ℕ → Serials → List Attempt → Type 0
 LedgerBy zero plan sites table attempts = Ledger (naming_of plan) sites table attempts
 LedgerBy (suc more) plan sites table attempts = PrelinkedLedger (length plan) (suc more) sites table attempts
 
--- the report is that of a run of a plan with so many workers: its attempts are a run's, its table has what they recorded, and all else is what that table and
--- these attempts say
+-- The report is that of a run of a plan with this many workers. Its attempts are a run's, its table has what they recorded, and all else is what that table and
+-- these attempts say.
 pub record IsReport (given : Given) (workers : ℕ) (plan : List (List Call)) (run : RunReport) : Type 0 where
   pub ledger : LedgerBy workers plan (length given.jobs) (serials_of run.table) run.attempts
   pub table : run.table ≡ recorded given (serials_of run.table)
@@ -48,7 +48,7 @@ pub record IsLinkedRun (given : Given) (workers : ℕ) (plan : List (List Call))
   pub whole : seat.room + length seat.holds ≡ limit
   pub held : distinct_types seat.holds ≡ plan_types.types given (serials_of run.table)
 
--- what the joined passes of a run tell of it
+-- what the joined passes of a run say of it
 pub record TellsRun {J : Type 0} (given : Given) (joined : Joined J) (run : Linked) : Type 0 where
   pub threads : run.threads ≡ joined.threads
   pub table : run.table ≡ recorded given joined.pass.links.linked
@@ -59,12 +59,12 @@ pub record TellsRun {J : Type 0} (given : Given) (joined : Joined J) (run : Link
   pub same : IsPermutation joined.pass.links.attempts run.attempts
   pub rising : IsNonDecreasingBy (λ (a : Attempt). a.serial) run.attempts
 
--- the run is what its joined passes tell, where no thread has stopped, and the seat is theirs
+-- the run is what its joined passes say, if no thread has stopped, and the seat is theirs
 pub record ReportsJoined {J : Type 0} (given : Given) (joined : Joined J) (run : Linked) (seat : SeatView) : Type 0 where
   pub none : joined.stop ≡ None
   pub tells : TellsRun given joined run
   pub seat_is : seat ≡ joined.pass.types
 
--- the stop is that for want of memory outside the threads, or the one that is reported of them
+-- the stop is that for lack of memory outside the threads, or the one that is reported of them
 abbrev pub StopsJoined : {J : Type 0} → Joined J → Stop → Type 0
 StopsJoined joined stop = (stop ≡ outside) ⊎ (joined.stop ≡ Some stop)

@@ -80,6 +80,6 @@ pub record IsStopOfWorkers (given : Given) (workers threads : ℕ) (stop : Stop)
 
 -- ---- a run
 
--- the stop is that for want of memory outside the threads, or that of a thread, or of a worker
+-- the stop is that for lack of memory outside the threads, or that of a thread or a worker
 abbrev pub IsStopBy : Given → ℕ → List (List Call) → Stop → Type 0
 IsStopBy given workers plan stop = (stop ≡ outside) ⊎ (IsStopOfThreads given workers plan stop ⊎ IsStopOfWorkers given workers (length plan) stop)

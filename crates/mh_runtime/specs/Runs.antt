@@ -25,11 +25,11 @@ pub record HasStoppedOn {J : Type 0} (given : Given) (base : Pass J) (plan : Lis
   pub all : AreAllJoined given base plan joined
   pub some : joined.stop ≡ Some stop
 
--- the stop is that for want of memory outside the threads, or that of a thread
+-- the stop is that for lack of memory outside the threads, or that of a thread
 abbrev pub IsStopOn : {J : Type 0} → Given → Pass J → List (List Call) → Stop → Type 0
 IsStopOn given base plan stop = (stop ≡ outside) ⊎ HasStoppedOn given base plan stop
 
--- the pass is the first one, or the one that so many workers have left, none of which stopped
+-- the pass is the first one, or the one after this many workers, none of which stopped
 abbrev pub IsBaseBy : {J : Type 0} → Given → Linker J → ℕ → ℕ → Pass J → Type 0
 IsBaseBy given linker threads zero pass = IsUnused given linker pass
 IsBaseBy given linker threads (suc more) pass = IsPrelinked given linker threads (suc more) (record { pass = pass; stop = None })

@@ -49,8 +49,8 @@ abbrev pub stop_at : ℕ → Option WorkError → Option Stop
 stop_at thread None = None
 stop_at thread (Some e) = Some (record { thread = thread; error = e })
 
--- the reported one of two stops, the lower of a thread that found no form: the higher one if that thread had no memory, since the numbers of forms that it
--- has drawn are not known then; otherwise the lower one
+-- Which of two stops is reported, if the thread of the lower one found no number for a form. It is the higher one if that thread had no memory, since the form
+-- numbers that it has drawn are not known then. Otherwise it is the lower one.
 abbrev pub reported_over : WorkError → Stop → Stop → Stop
 reported_over NoMemory low high = high
 reported_over (FormsFull drawn) low high = low
@@ -68,7 +68,7 @@ stop_after None own = own
 stop_after (Some low) None = Some low
 stop_after (Some low) (Some high) = Some (reported_of low.error high.error low high)
 
--- the reported stop once more threads have ended, from this thread on
+-- the reported stop after more threads have ended, from this thread on
 abbrev pub stops_after : ℕ → Option Stop → List (Option WorkError) → Option Stop
 stops_after thread reported [] = reported
 stops_after thread reported (end ∷ ends) = stops_after (suc thread) (stop_after reported (stop_at thread end)) ends
@@ -77,7 +77,7 @@ stops_after thread reported (end ∷ ends) = stops_after (suc thread) (stop_afte
 abbrev pub stop_of : List (Option WorkError) → Option Stop
 stop_of ends = stops_after 0 None ends
 
--- want of memory outside the threads
+-- lack of memory outside the threads
 abbrev pub outside : Stop
 outside = record { thread = 0; error = NoMemory }
 
@@ -86,12 +86,12 @@ pub record IsFirst (ends : List (Option WorkError)) (thread : ℕ) (e : WorkErro
   pub own : slice_get ends thread ≡ Some (Some e)
   pub below : (lower : ℕ) (f : WorkError) → lower < thread → slice_get ends lower ≢ Some (Some f)
 
--- no thread below this one has stopped for want of memory
+-- no thread below this one has stopped for lack of memory
 abbrev pub HadMemory : List (Option WorkError) → ℕ → Type 0
 HadMemory ends thread = (lower : ℕ) → lower < thread → slice_get ends lower ≢ Some (Some NoMemory)
 
--- of threads that ended so, this stop is that of the lowest one that stopped; where that one found no form, it is that of the lowest one that had no memory, if
--- one had none
+-- Of threads that ended in this way, this stop is that of the lowest one that stopped. If that one found no number for a form, and some thread had no memory,
+-- it is that of the lowest thread without memory.
 abbrev pub IsReported : List (Option WorkError) → Stop → Type 0
 IsReported ends stop =
     (IsFirst ends stop.thread stop.error × ((drawn : ℕ) → stop.error ≡ FormsFull drawn → HadMemory ends (length ends)))

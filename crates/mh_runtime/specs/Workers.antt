@@ -38,7 +38,7 @@ LinksSite given old site stop new = LinksSites given (site ∷ []) stop old new
 abbrev pub KnowsSite : {J : Type 0} → Pass J → ℕ → Type 0
 KnowsSite pass site = IsSome (serial_at pass.links.linked site)
 
--- the pass is one over this linker, and has room for so many sites
+-- the pass is over this linker, and has room for this many sites
 abbrev pub HasRoomOf : {J : Type 0} → Given → Linker J → Pass J → ℕ → Type 0
 HasRoomOf given linker pass sites = IsOf given linker pass × HasRoom sites pass
 

@@ -44,7 +44,7 @@ impl<'s, 't, J: Run> KnownSites<'s, 't, J> {
         })
     }
 
-    /// The same linkages, for another pass.
+    /// A copy of the linkages, for another pass.
     pub(crate) fn copy(&mut self, alloc: Global) -> Result<KnownSites<'s, 't, J>, NoMemory>
         ensures same { self.new ≡ self.old }
         ensures copy { IfOk result (λ copy. copy ≡ self.old) }

@@ -1,7 +1,7 @@
-//! Threads that link call sites and call them: each call is by a handle, over one table of forms,
-//! and each call site is linked once, by whichever thread records first. A thread has a [`Pass`] of
-//! its own, and shares the [`Linker`]. A whole plan is run by [`run_all`], after workers have
-//! linked all call sites, if that is asked for.
+//! Threads that link call sites and call them. Each call is by a handle, over one table of forms.
+//! Each call site is linked once, by whichever thread records first. A thread has a [`Pass`] of its
+//! own, and shares the [`Linker`]. A whole plan is run by [`run_all`], after workers have linked
+//! all call sites, if that is asked for.
 #![tactic(auto)]
 
 mod base;

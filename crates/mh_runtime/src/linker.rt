@@ -156,10 +156,11 @@ impl<'t, J: Run> Linker<'t, J> {
         Ok(())
     }
 
-    /// The linkage of a site: that which the pass has learnt, or the site shows, or that of an attempt
-    /// that is made now, unless another thread has recorded one meanwhile. One that the pass has
-    /// learnt takes no memory and changes nothing. If the attempt fails, nothing was recorded, and its
-    /// serial is spent. The gate is called before and after a linkage is recorded.
+    /// The linkage of a site: the one that the pass has learnt, or that the site shows. Otherwise
+    /// that of a new attempt, unless another thread has recorded one in the meantime. One that the
+    /// pass has learnt takes no memory and changes nothing. If the attempt fails, nothing was
+    /// recorded, and its serial is spent. The gate is called before and after a linkage is
+    /// recorded.
     pub fn resolve<'s, R: Wait, G: Gate>(
         &'s self,
         rt: &R,
@@ -204,8 +205,8 @@ impl<'t, J: Run> Linker<'t, J> {
         call.can_be_made(self.leaves, self.sites.jobs())
     }
 
-    /// Makes a call in a machine, whose memory the calls of a thread have in common: of a leaf by a
-    /// handle of it, or of a call site by its linkage, which is resolved first. An error that is
+    /// Makes a call in a machine, whose memory serves all calls of a thread. A leaf is called by a
+    /// handle of it, and a call site by its linkage, which is resolved first. An error that is
     /// linked there is thrown with no leaf call.
     pub fn call<'s, R: Wait, G: Gate>(
         &'s self,

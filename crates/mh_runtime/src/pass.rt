@@ -3,12 +3,12 @@ use mh_handle::FormPass;
 use mh_intern::TypeSeat;
 use mh_jobs::Run;
 
-/// What one thread has of a run: what it knows of the call sites, its attempts, its pass over the
-/// table of forms, and its seat of the table of types. A thread has a pass of its own, that it gives
-/// to the calls of the [`Linker`](crate::Linker) which the threads share.
+/// What one thread has of a run: what it knows of the call sites, and its attempts. Also its pass
+/// over the table of forms, and its seat of the table of types. A thread has a pass of its own,
+/// that it gives to the calls of the [`Linker`](crate::Linker) which the threads share.
 ///
-/// The last two are there for a thread that makes handles of its own beside what it links, by the
-/// combinators: they are what a [`Work`](mh_handle::Work) is made of.
+/// The last two are public for a thread that also makes handles of its own by the combinators: they
+/// are what a [`Work`](mh_handle::Work) is made of.
 #[derive(Drop)]
 pub struct Pass<'s, 't, J: Run> {
     /// What the thread knows of the call sites, and what it has attempted.

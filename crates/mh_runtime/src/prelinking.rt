@@ -17,8 +17,8 @@ use mh_prelink::{Linking, Numbers, SharesOut, share_out};
 use std::sync::Wait;
 use std::thread::Threads;
 
-/// What the workers of a run share: the linker, the plan, after whose threads they are numbered,
-/// and the gate at which a worker may be held when it records what it has linked.
+/// What the workers of a run share: the linker, the plan, and the gate that may hold a worker when
+/// it records what it has linked. Workers have the numbers after those of the plan's threads.
 #[derive(Drop)]
 pub(crate) struct Prelinking<'s, 't, J: Run, G> {
     pub(crate) linker: &'s Linker<'t, J>,

@@ -290,18 +290,17 @@ fn run_named<J: Run + Send + Sync, R: Threads + Wait + Sync, G: Gate + Sync>(
     })
 }
 
-/// Runs the calls of a plan, each thread beside the others, over one linker and one table of forms,
-/// which has numbers for 16,384 forms. The plan is one of these leaves and call sites, and within
-/// the limits on threads and calls; there are at most 4,096 sites.
+/// Runs the calls of a plan, with concurrent threads, over one linker and one table of forms, which
+/// has numbers for 16,384 forms. The plan is one of these leaves and call sites, and within the
+/// limits on threads and calls; there are at most 4,096 sites.
 ///
-/// A thread links a site at its first call of it, unless it finds it linked by another; what is
-/// recorded first stays, an error too, and each caller of the site gets it. The gate is called by a
-/// thread before and after it records.
+/// A thread links a site at its first call of it, unless it finds it linked by another thread. What
+/// is recorded first stays, even an error, and each caller of the site gets it. The gate is called
+/// by a thread before and after it records.
 ///
-/// Where there are workers, of which there are at most 16, they link all call sites before the
-/// calls, beside each other: each takes sites that no other one takes, with a pass of its own. They
-/// have the numbers after those of the plan's threads, which then find each site linked and attempt
-/// none.
+/// If there are workers, at most 16, they link all call sites before the calls, concurrently. Each
+/// takes sites that no other one takes, with a pass of its own. They have the numbers after those
+/// of the plan's threads, which then find each site linked and attempt none.
 ///
 /// If a thread stopped, the answer is the lowest one that did, and its error: no memory was left,
 /// no number for a form, or no slot for a type. Only if that one had no number and a higher one no

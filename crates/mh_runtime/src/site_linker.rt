@@ -118,10 +118,10 @@ impl<'t, J: Run> SiteLinker<'t, J> {
         Ok(linkage)
     }
 
-    /// The linkage of a site: that which the pass has learnt, or its cell shows, or that of an
-    /// attempt that is made now, unless another thread has recorded one meanwhile. One that the pass
-    /// has learnt takes no memory. If the attempt fails, nothing was recorded, and its serial is
-    /// spent.
+    /// The linkage of a site: the one that the pass has learnt, or that its cell shows. Otherwise
+    /// that of a new attempt, unless another thread has recorded one in the meantime. One that the
+    /// pass has learnt takes no memory. If the attempt fails, nothing was recorded, and its serial
+    /// is spent.
     pub(crate) fn resolve<'s, R: Wait, G: Gate>(
         &'s self,
         w: &mut Work<'_, 't>,

@@ -80,7 +80,7 @@ impl<'s, 't, J: Run> SitePass<'s, 't, J> {
     }
 
     /// A pass for another thread, which has learnt what this one has, and has attempted nothing. It
-    /// may draw 2^32 serials, for which this one must have room. It takes no memory.
+    /// may draw 2^32 serials. This pass must have room for them. It takes no memory.
     pub(crate) fn split(
         &mut self,
         alloc: Global,

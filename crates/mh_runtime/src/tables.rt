@@ -4,8 +4,8 @@ use mh_intern::{TypeSeat, TypeTable};
 use mh_tickets::{TicketSeat, Tickets};
 use std::alloc::Global;
 
-/// What the threads of a run share beside its call sites: the table of types, the table of forms, and
-/// the counter of the attempts' serials.
+/// What the threads of a run share in addition to its call sites: the table of types, the table of
+/// forms, and the counter of the attempts' serials.
 #[derive(Drop)]
 pub struct Tables {
     pub types: TypeTable,
@@ -25,7 +25,7 @@ impl Tables {
     ghost use Rattle.std.specs.Prelude.{IfOk};
     ghost use Rattle.mh_runtime.specs.Linkers.{HaveAll};
 
-    /// Tables of which nothing was drawn or asked for, and their seats, which have all the room.
+    /// New tables, and their seats, which have all the room.
     pub fn new(alloc: Global) -> Result<(Tables, Seats), NoMemory>
         ensures { IfOk result (λ made. HaveAll made.0 made.1) }
     {

@@ -25,7 +25,7 @@ use Rattle.mh_script.specs.Tokens.{is_register, argument_number, is_assignable, 
 abbrev pub bad_descriptor : Option ℕ → Option ScriptKind
 bad_descriptor fault = option_map (λ at. BadDescriptor) fault
 
--- a register that is to hold what is wanted: what a static argument holds is known in a run alone
+-- a register that must hold a thing of this sort; what a static argument holds is known only in a run
 abbrev pub sort_fault : List Step → Sort → List ℕ → Option ScriptKind
 sort_fault steps wanted name =
     if is_some (argument_number name) then None
@@ -82,7 +82,7 @@ three_fault classes steps form first second third =
     lower (fault_in classes steps (three_places form).0 first)
     (lower (fault_in classes steps (three_places form).1 second) (fault_in classes steps (three_places form).2 third))
 
--- an operation whose word takes a number of operands: `serial` none, and each other word as many as stand after it
+-- an operation whose word takes a fixed number of operands: `serial` takes none, and each other word as many as follow it here
 abbrev pub fixed_fault : List Class → List Step → List ℕ → List (List ℕ) → Option ScriptKind
 fixed_fault classes steps word [] = fault_unless (bytes_eq word (codes "serial")) BadLine
 fixed_fault classes steps word (first ∷ []) =

@@ -1,4 +1,4 @@
--- The operations of scripts: their words, and what stands after each.
+-- The operations of scripts: their words, and what follows each.
 use Rattle.std.specs.Prelude.{ℕ, if◌then◌else◌, List, codes, Option, None, Some}
 use Rattle.std.specs.Option.{option_or}
 use Rattle.std.specs.Str.{bytes_eq}

@@ -26,7 +26,7 @@ named_at names name descriptor = option_and_then (λ descriptors. at_text descri
 abbrev pub owned_at : ByOwner → List ℕ → List ℕ → List ℕ → Option ℕ
 owned_at owners owner name descriptor = option_and_then (λ names. named_at names name descriptor) (at_text owners owner)
 
--- whether three texts are three others
+-- whether three texts are equal to three others
 abbrev pub are_texts : List ℕ → List ℕ → List ℕ → List ℕ → List ℕ → List ℕ → Bool
 are_texts owner name descriptor o n d = bytes_eq owner o && (bytes_eq name n && bytes_eq descriptor d)
 
@@ -35,11 +35,11 @@ abbrev pub FindsOneMore : ByOwner → ByOwner → List ℕ → List ℕ → List
 FindsOneMore old new owner name descriptor number =
     (o n d : List ℕ) → owned_at new o n d ≡ (if are_texts owner name descriptor o n d then Some number else owned_at old o n d)
 
--- three texts have this number where they had none, and all others the one that they had
+-- three texts have this number if they had none, and all others the one that they had
 abbrev pub FindsFirst : ByOwner → ByOwner → List ℕ → List ℕ → List ℕ → ℕ → Type 0
 FindsFirst old new owner name descriptor number =
     (o n d : List ℕ) → owned_at new o n d ≡ option_or (owned_at old o n d) (if are_texts owner name descriptor o n d then Some number else None)
 
--- something stands under one more owner, or again under it
+-- there is an entry for one more owner, or again for one that had one
 abbrev pub KnowsOneMore : ByOwner → ByOwner → List ℕ → Type 0
 KnowsOneMore old new owner = (o : List ℕ) → is_some (at_text new o) ≡ (bytes_eq owner o || is_some (at_text old o))

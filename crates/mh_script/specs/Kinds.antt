@@ -1,4 +1,4 @@
--- The kinds of fault of scripts, and which of two counts.
+-- The kinds of fault of scripts, and which of two is reported.
 use Rattle.std.specs.Prelude.{ℕ, nat_le, Bool, if◌then◌else◌, List, codes, Option, None, Some}
 use Rattle.mh_script.specs.declared.kinds.ScriptKind.{ScriptKind}
 use Rattle.mh_script.specs.declared.kinds.ScriptKind.TheVariants.{BadLine, Twice, TooLong, Undefined, WrongSort, BadDescriptor, BadLiteral, NoReturn}
@@ -14,7 +14,7 @@ kind_word BadDescriptor = codes "BadDescriptor"
 kind_word BadLiteral = codes "BadLiteral"
 kind_word NoReturn = codes "NoReturn"
 
--- the number of a kind: of the kinds that apply to a line, the one with the lowest number counts
+-- the number of a kind: of the kinds that apply to a line, the one with the lowest number is reported
 abbrev pub kind_number : ScriptKind → ℕ
 kind_number BadLine = 1
 kind_number Twice = 2
@@ -35,6 +35,6 @@ lower None other = other
 lower (Some one) None = Some one
 lower (Some one) (Some other) = Some (lower_kind one other)
 
--- a fault where a condition does not hold
+-- a fault if a condition does not hold
 abbrev pub fault_unless : Bool → ScriptKind → Option ScriptKind
 fault_unless holds kind = if holds then None else Some kind

@@ -1,4 +1,4 @@
--- What a run of a script rests on: it has few lines, and none divides by 0.
+-- What a run of a script relies on: there are few lines, and none divides by 0.
 use Rattle.std.specs.Prelude.{◌≤◌, ◌<◌, List, length, All}
 use Rattle.mh_script.specs.declared.reading.Stage.{Stage}
 use Rattle.mh_script.specs.declared.reading.Stage.TheVariants as stage
@@ -27,7 +27,7 @@ pub record AreBegun (steps : List Step) : Type 0 where
   pub few : length steps ≤ 64
   pub divide : All CanDivide steps
 
--- where a line may stand: the lines before it within its script are as above
+-- a line may come next: the lines before it within its script are as above
 abbrev pub MayStand : Stage → Type 0
 MayStand (stage.Within begun) = AreBegun begun.steps
 MayStand s = Unit {0}

@@ -1,4 +1,4 @@
--- What the tokens of a line within a script say, where nothing is wrong with them.
+-- What the tokens of a line within a script say, if nothing is wrong with them.
 use Rattle.std.specs.Prelude.{ℕ, ◌==◌, nat_le, if◌then◌else◌, List, [], ◌∷◌, codes, length, map, Result, Ok, Err}
 use Rattle.std.specs.Str.{bytes_eq}
 use Rattle.mh_values.specs.declared.class.Class.{Class}
@@ -110,7 +110,7 @@ three_operation classes three.Guard first second third = Ok (operation.Guard (re
 three_operation classes three.Catch first second third = Ok (operation.Catch (register_of first) second (register_of third))
 three_operation classes three.Counted first second third = Ok (operation.Counted (register_of first) (register_of second) (register_of third))
 
--- an operation whose word takes a number of operands
+-- an operation whose word takes a fixed number of operands
 abbrev pub fixed_operation : List Class → List ℕ → List (List ℕ) → Result Operation ScriptKind
 fixed_operation classes word (first ∷ []) = provided_some (one_form word) BadLine (λ form. one_operation form first)
 fixed_operation classes word (first ∷ second ∷ []) = provided_some (two_form word) BadLine (λ form. two_operation classes form first second)

@@ -8,7 +8,7 @@ use Rattle.mh_base.specs.Ascii.{comma}
 use Rattle.mh_script.specs.declared.script.Step.{Step}
 use Rattle.mh_script.specs.declared.script.Step.TheVariants as step
 
--- the number below 2^64 that is written so, in decimal and without a needless zero
+-- the number below 2^64 that a text writes, in decimal and without a needless zero
 abbrev pub number_of : List ℕ → Option ℕ
 number_of text = let n = digits_value 10 (without_leading_plus text) in if nat_lt n (2 ^ 64) && bytes_eq (decimal n) text then Some n else None
 
@@ -16,11 +16,11 @@ number_of text = let n = digits_value 10 (without_leading_plus text) in if nat_l
 abbrev pub if_small : ℕ → Option ℕ
 if_small n = if nat_le n 255 then Some n else None
 
--- the number from 0 to 255 that is written so
+-- the number from 0 to 255 that a text writes
 abbrev pub small_of : List ℕ → Option ℕ
 small_of text = option_and_then if_small (number_of text)
 
--- the numbers that are written so, one by each text
+-- the numbers that texts write, one by each text
 abbrev pub numbers_of : List (List ℕ) → Option (List ℕ)
 numbers_of [] = Some []
 numbers_of (text ∷ texts) = option_and_then (λ n. option_map (λ ns. n ∷ ns) (numbers_of texts)) (small_of text)

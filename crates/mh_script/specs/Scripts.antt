@@ -43,7 +43,7 @@ abbrev pub is_end_line : List (List ℕ) → Bool
 is_end_line (word ∷ []) = bytes_eq word (codes "end")
 is_end_line _ = false
 
--- a line within a script, after so many others: a script has `end` and at most 64 lines, and the last of them, and no other, is one that ends it
+-- A line within a script, after this many others. A script has at most 64 lines and `end`. The last of these lines, and no other, is one that ends it.
 abbrev pub standing_fault : ℕ → Bool → Next → Option ScriptKind
 standing_fault count ending follows.Nothing = Some BadLine
 standing_fault count ending follows.End = lower (fault_unless (not (count == 64)) TooLong) (fault_unless ending NoReturn)
@@ -51,7 +51,7 @@ standing_fault count ending follows.Line = lower (fault_unless (not (count == 64
 
 -- ---- lines within scripts
 
--- goes on where there is no fault
+-- goes on if there is no fault
 abbrev pub unless_fault : {A : Type 0} → Option ScriptKind → Result A ScriptKind → Result A ScriptKind
 unless_fault None next = next
 unless_fault (Some kind) next = Err kind
@@ -102,13 +102,13 @@ outside_line scripts (word ∷ owner ∷ name ∷ descriptor ∷ []) next =
     header_line scripts word (record { owner = owner; name = name; descriptor = descriptor }) next
 outside_line scripts _ next = Err BadLine
 
--- after the last line of a script stands `end`
+-- the last line of a script is followed by `end`
 abbrev pub ended_line : List Script → List (List ℕ) → Result Reading ScriptKind
 ended_line scripts tokens = provided (is_end_line tokens) BadLine (Ok (record { scripts = scripts; stage = stage.Outside }))
 
 -- ---- lines
 
--- a line by where it stands
+-- a line within a script, between scripts, or after a last line
 abbrev pub staged_line : List Class → List Script → Stage → List (List ℕ) → Next → Result Reading ScriptKind
 staged_line classes scripts stage.Outside tokens next = outside_line scripts tokens next
 staged_line classes scripts (stage.Within begun) tokens next = within_line classes scripts begun tokens next
@@ -141,6 +141,6 @@ abbrev pub scripts_read : Result Reading (LineFault ScriptKind) → Result (List
 scripts_read (Ok reading) = Ok reading.scripts
 scripts_read (Err fault) = Err fault
 
--- the scripts of a file, or its first faulty line; the literals that scripts have name no class, so the built-in ones do to read them
+-- the scripts of a file, or its first faulty line; literals in scripts name no class, so the built-in classes are enough to read them
 abbrev pub scripts : List ℕ → Result (List Script) (LineFault ScriptKind)
 scripts bytes = scripts_read (scripts_from builtin_classes 1 nothing_read (lines_of bytes))

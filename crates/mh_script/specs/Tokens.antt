@@ -49,7 +49,7 @@ is_assignable token = is_register token && not (is_given token)
 
 -- ---- what registers hold
 
--- whether two sorts are one
+-- whether two sorts are equal
 abbrev pub is_same_sort : Sort → Sort → Bool
 is_same_sort sort.Handle sort.Handle = true
 is_same_sort sort.Handle _ = false
@@ -60,13 +60,13 @@ is_same_sort sort.MethodType _ = false
 is_same_sort sort.Class sort.Class = true
 is_same_sort sort.Class _ = false
 
--- what a register holds after a line, where it held something or nothing before
+-- what a register holds after a line, if it held something or nothing before
 abbrev pub sort_after : List ℕ → Option Sort → Step → Option Sort
 sort_after name before (step.Let target operation) = if bytes_eq target name then Some sort.Handle else before
 sort_after name before (step.Serial target) = if bytes_eq target name then Some sort.Value else before
 sort_after name before (step.FailMod modulus remainder) = before
 
--- what lines have assigned to a register: the last of them counts
+-- what lines have assigned to a register: the last one decides
 abbrev pub assigned_sort : List Step → List ℕ → Option Sort
 assigned_sort steps name = fold (sort_after name) None steps
 

@@ -7,7 +7,7 @@ use Rattle.mh_script.specs.declared.kinds.ScriptKind.{ScriptKind}
 use Rattle.mh_script.specs.declared.reading.Reading.{Reading}
 use Rattle.mh_script.specs.declared.script.Script.{Script}
 
--- the value, or the first faulty line; want of memory tells nothing
+-- the value, or the first faulty line; about lack of memory nothing is said
 abbrev pub TellsLines : {A : Type 0} → Result A ScriptError → Result A (LineFault ScriptKind) → Type 0
 TellsLines (Ok got) meaning = meaning ≡ Ok got
 TellsLines (Err NoMemory) meaning = Unit {0}

@@ -113,6 +113,6 @@ script_text classes script =
     line_text (header_tokens script.method) ++ steps_text classes script.steps ++ line_text (end_tokens classes script.end)
     ++ line_text (codes "end" ∷ [])
 
--- the text of scripts, one after the other; the literals that scripts have name no class, so the built-in ones do to write them
+-- the text of scripts, one after the other; literals in scripts name no class, so the built-in classes are enough to write them
 abbrev pub scripts_text : List Script → List ℕ
 scripts_text scripts = flat_map (script_text builtin_classes) scripts

@@ -17,7 +17,7 @@ use mh_leaves::{is_class_name, read_reference};
 use mh_values::{Classes, descriptor_text, field_descriptor_text, types_text};
 use std::alloc::Global;
 
-/// What is wrong with a text that is to be a method descriptor.
+/// What is wrong with a text that must be a method descriptor.
 pub(crate) fn bad_method(text: &[u8]) -> Option<ScriptKind>
     ensures { result ≡ bad_descriptor (descriptor_fault text.now) }
 {
@@ -27,7 +27,7 @@ pub(crate) fn bad_method(text: &[u8]) -> Option<ScriptKind>
     }
 }
 
-// What is wrong with a text that is to be the descriptor of a type.
+// What is wrong with a text that must be the descriptor of a type.
 fn bad_type(text: &[u8]) -> Option<ScriptKind>
     ensures { result ≡ bad_descriptor (type_fault text.now) }
 {
@@ -37,7 +37,7 @@ fn bad_type(text: &[u8]) -> Option<ScriptKind>
     }
 }
 
-// What is wrong with a text that is to be descriptors of types, one after the other.
+// What is wrong with a text that must be descriptors of types, one after the other.
 fn bad_types(text: &[u8]) -> Option<ScriptKind>
     ensures { result ≡ bad_descriptor (types_fault text.now) }
 {
@@ -47,7 +47,7 @@ fn bad_types(text: &[u8]) -> Option<ScriptKind>
     }
 }
 
-// What is wrong with a register that is to hold what is wanted.
+// What is wrong with a register that must hold a thing of this sort.
 fn sort_fault(steps: &[Step], wanted: Sort, name: &[u8]) -> Option<ScriptKind>
     ensures { result ≡ sort_fault steps.now wanted name.now }
 {
@@ -184,7 +184,7 @@ fn three_fault(
     Ok(lower(one, lower(two, three)))
 }
 
-// What is wrong with an operation whose word takes a number of operands.
+// What is wrong with an operation whose word takes a fixed number of operands.
 fn fixed_fault(
     alloc: Global,
     classes: &Classes,
@@ -213,7 +213,7 @@ fn fixed_fault(
     }
 }
 
-// What is wrong with these, which are to be registers with method handles.
+// What is wrong with tokens that must be registers with method handles.
 fn handles_fault(steps: &[Step], tokens: &[&[u8]]) -> Option<ScriptKind>
     ensures { result ≡ handles_fault steps.now (map (λ t. t.now) tokens.now) }
 {
@@ -257,7 +257,7 @@ fn operands_fault(
     }
 }
 
-// What is wrong with what stands after `let`.
+// What is wrong with what follows `let`.
 fn let_fault(
     alloc: Global,
     classes: &Classes,

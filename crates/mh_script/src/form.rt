@@ -1,7 +1,7 @@
 ghost use Rattle.std.specs.Prelude.{◌≡◌};
 ghost use Rattle.mh_script.specs.Forms.{one_form, two_form, argument_form, other_form, three_form, one_place, two_places, three_places};
 
-/// The sorts of token that stand after the word of an operation.
+/// The sorts of token that follow the word of an operation.
 #[derive(Clone, Copy)]
 pub(crate) enum Place {
     /// H or F: a register with a method handle.
@@ -92,7 +92,7 @@ pub(crate) fn two_form(word: &[u8]) -> Option<Two>
     }
 }
 
-// The operation of three operands that a word names, where it changes single arguments.
+// The operation of three operands that a word names, if it changes single arguments.
 fn argument_form(word: &[u8]) -> Option<Three>
     ensures { result ≡ argument_form word.now }
 {
@@ -143,7 +143,7 @@ pub(crate) fn three_form(word: &[u8]) -> Option<Three>
 }
 
 impl One {
-    /// What stands after the word.
+    /// What follows the word.
     pub(crate) fn place(self) -> Place
         ensures { result ≡ one_place self }
     {
@@ -155,7 +155,7 @@ impl One {
 }
 
 impl Two {
-    /// What stands after the word, in this order.
+    /// What follows the word, in this order.
     pub(crate) fn places(self) -> (Place, Place)
         ensures { result ≡ two_places self }
     {
@@ -169,7 +169,7 @@ impl Two {
 }
 
 impl Three {
-    /// What stands after the word, in this order.
+    /// What follows the word, in this order.
     pub(crate) fn places(self) -> (Place, Place, Place)
         ensures { result ≡ three_places self }
     {

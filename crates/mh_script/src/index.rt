@@ -32,7 +32,7 @@ pub(crate) fn owned(owners: &ByOwner, texts: Reference<'_>) -> Option<u32>
     named(owners.get(texts.owner)?, texts.name, texts.descriptor)
 }
 
-// Takes out what stands under a name.
+// Takes out the entry of a name.
 fn take_name(alloc: Global, names: &mut ByName, name: &[u8]) -> ByDescriptor
     ensures rest { WritesText names.old names.new name.now None }
     ensures taken { (d : List ℕ) → at_text result d ≡ named_at names.old name.now d }
@@ -43,7 +43,7 @@ fn take_name(alloc: Global, names: &mut ByName, name: &[u8]) -> ByDescriptor
     }
 }
 
-// Takes out what stands under an owner.
+// Takes out the entry of an owner.
 fn take_owner(alloc: Global, owners: &mut ByOwner, owner: &[u8]) -> ByName
     ensures rest { WritesText owners.old owners.new owner.now None }
     ensures taken { (n d : List ℕ) → named_at result n d ≡ owned_at owners.old owner.now n d }

@@ -7,25 +7,26 @@ use std::alloc::AllocError;
 use std::error::Error;
 use std::fmt;
 
-/// What is wrong with a line of scripts. Where several kinds apply, the line has the first of them.
+/// What is wrong with a line of scripts. If several kinds apply, the line has the first of them.
 #[derive(Clone, Copy, Debug, PartialEq, Eq)]
 pub enum ScriptKind {
-    /// The line has none of the forms that may stand there, assigns to a register that is given, or
-    /// has a number outside its range. A last script without `end` has it at the last line.
+    /// The line has none of the forms that are allowed there, assigns to a given register, or has a
+    /// number outside its range. If the last script has no `end`, the last line has this fault.
     BadLine,
-    /// A script before has the same owner, name and descriptor.
+    /// An earlier script has the same owner, name and descriptor.
     Twice,
     /// The line is the 65th of its script.
     TooLong,
-    /// No line before assigns the register, and it is not given.
+    /// No earlier line assigns the register, and it is not given.
     Undefined,
-    /// The register holds what cannot stand in its place.
+    /// The register holds a thing of another sort than its place needs.
     WrongSort,
-    /// A text is no descriptor that stands in the place of one.
+    /// A text in the place of a descriptor is none.
     BadDescriptor,
-    /// A token is no literal of a boxed number or of a text that stands in the place of one.
+    /// A token in the place of a literal is neither a boxed number nor a text.
     BadLiteral,
-    /// The last line before `end` is neither `return` nor `raise`, or such a line is not the last.
+    /// The last line before `end` is none of `return`, `raise` and `value`, or such a line is not
+    /// the last.
     NoReturn,
 }
 
@@ -87,7 +88,7 @@ pub(crate) fn lower(one: Option<ScriptKind>, other: Option<ScriptKind>) -> Optio
     Some(lower_kind(first, second))
 }
 
-/// A fault where a condition does not hold.
+/// A fault if a condition does not hold.
 pub(crate) fn fault_unless(holds: bool, kind: ScriptKind) -> Option<ScriptKind>
     ensures { result ≡ fault_unless holds kind }
 {

@@ -1,4 +1,4 @@
-//! Scripts, in which bootstrap methods are written: the language as data, and its reader.
+//! Scripts, which stand for bootstrap methods: the language as data, and its reader.
 #![tactic(auto)]
 
 mod fault;

@@ -26,7 +26,7 @@ pub(crate) enum Line {
     End(End),
 }
 
-/// The most cases of a switch beside its first.
+/// The most cases of a switch after its first.
 pub(crate) const MOST_OTHER_CASES: usize = 15;
 
 /// What tokens say, or what is wrong with them.
@@ -273,7 +273,7 @@ fn three_operation(
     }
 }
 
-// The operation of a word that takes a number of operands.
+// The operation of a word that takes a fixed number of operands.
 fn fixed_operation(
     alloc: Global,
     classes: &Classes,

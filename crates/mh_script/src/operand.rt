@@ -14,14 +14,14 @@ pub enum Register {
     Assigned(Seq<u8>),
 }
 
-/// What stands for a value: a boxed number, a text or `null`, or the register that holds it.
+/// An operand for a value: a boxed number, a text or `null`, or the register that holds it.
 #[derive(Debug, Drop)]
 pub enum ValueOperand {
     Literal(Value),
     Register(Register),
 }
 
-/// What stands for a type: its descriptor (JVMS SE 17, 4.3.2), `V`, or a register with a class.
+/// An operand for a type: its descriptor (JVMS SE 17, 4.3.2), `V`, or a register with a class.
 #[derive(Debug, Drop)]
 pub enum TypeOperand {
     Void,
@@ -29,7 +29,7 @@ pub enum TypeOperand {
     Register(Register),
 }
 
-/// What stands for a method type: its descriptor (JVMS SE 17, 4.3.3), or a register.
+/// An operand for a method type: its descriptor (JVMS SE 17, 4.3.3), or a register.
 #[derive(Debug, Drop)]
 pub enum MethodTypeOperand {
     Descriptor(Seq<u8>),

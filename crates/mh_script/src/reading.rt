@@ -44,7 +44,7 @@ struct Begun {
     steps: Seq<Step>,
 }
 
-/// Where in a file a line stands.
+/// The part of a file in which a line is.
 #[derive(Drop)]
 enum Stage {
     /// Outside of scripts.
@@ -55,7 +55,8 @@ enum Stage {
     Ended,
 }
 
-/// What was read so far: the scripts that have their last line, and where the next line stands.
+/// What was read so far: the scripts that have their last line, and the part of the file in which
+/// the next line is.
 #[derive(Drop)]
 struct Reading {
     scripts: Scripts,
@@ -100,7 +101,7 @@ fn following(lines: &[&[u8]]) -> Next
     Next::Nothing
 }
 
-// Whether these are the tokens of a line that is to be the last of its script.
+// Whether these are the tokens of a line that must be the last of its script.
 fn is_ending(tokens: &[&[u8]]) -> bool
     ensures { result ≡ is_ending (map (λ t. t.now) tokens.now) }
 {
@@ -124,7 +125,8 @@ fn is_end_line(tokens: &[&[u8]]) -> bool
     }
 }
 
-// What is wrong with where a line within a script stands: after so many lines, before what follows.
+// What is wrong with the place of a line within a script: it comes after this many lines, and
+// before what follows.
 fn standing_fault(count: usize, is_ending: bool, following: Next) -> Option<ScriptKind>
     ensures { result ≡ standing_fault count is_ending following }
 {
@@ -274,7 +276,7 @@ fn read_counting(alloc: Global, classes: &Classes, reading: Reading, line: Count
     }
 }
 
-// Takes a line, after which these stand.
+// Takes a line, which these lines follow.
 fn read_line(
     alloc: Global,
     classes: &Classes,
@@ -340,8 +342,8 @@ fn read_all(alloc: Global, bytes: &[u8]) -> Result<Scripts, ScriptError>
     Ok(scripts)
 }
 
-/// Reads scripts, or gives the first faulty line. A line or a script that no `u32` can number is
-/// want of memory.
+/// Reads scripts, or gives the first faulty line. A line or a script that no `u32` can number
+/// counts as lack of memory.
 pub fn read_scripts(alloc: Global, bytes: &[u8]) -> Result<Scripts, ScriptError>
     ensures meaning { TellsScripts result (scripts bytes.now) }
     ensures again { IfOk result (λ all. scripts (scripts_text all) ≡ Ok all) }

@@ -11,7 +11,7 @@ pub struct MethodName {
 }
 
 /// What makes a method handle: a leaf that is looked up, or a call of `MethodHandles`. Classes,
-/// leaves and types stand by their texts, since they are looked up when the line runs.
+/// leaves and types are kept as texts, since they are looked up when the line runs.
 #[derive(Debug, Drop)]
 pub enum Operation {
     /// `leaf REF`
@@ -61,9 +61,9 @@ pub enum Operation {
 pub enum Step {
     /// `let R OP`: the register, by its name, and what makes the method handle that it gets.
     Let(Seq<u8>, Operation),
-    /// `let R serial`: the register gets the number of the attempt, as a boxed long.
+    /// `let R serial`: the register gets the serial of the attempt, as a boxed long.
     Serial(Seq<u8>),
-    /// `failmod K R`: throws where the number of the attempt has this remainder.
+    /// `failmod K R`: throws if the serial modulo K equals R.
     FailMod { modulus: u32, remainder: u32 },
 }
 

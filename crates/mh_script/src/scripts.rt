@@ -14,7 +14,7 @@ use std::marker::Model;
 #[derive(Clone, Copy, Debug, PartialEq, Eq)]
 pub struct ScriptId(pub u32);
 
-/// The scripts of a file, in their order. Contracts see the list of them, each of which can run.
+/// The scripts of a file, in their order. Contracts see the list of them; each can run.
 #[derive(Drop)]
 pub struct Scripts {
     scripts: Vec<Script>,
@@ -34,7 +34,7 @@ impl Model for Scripts {
     ghost invariant = { λ s. ArePlaces s.places s.scripts.items × All CanRun s.scripts.items };
 }
 
-// The number of a script after so many others.
+// The number of a script after this many others.
 fn next_number(count: usize) -> Result<u32, NoMemory>
     ensures { IfOk result (λ number. number ≡ count) }
 {
@@ -52,7 +52,7 @@ impl Scripts {
         }
     }
 
-    /// These scripts and one more. A script that no `u32` can number is want of memory.
+    /// These scripts and one more. A script that no `u32` can number counts as lack of memory.
     pub(crate) fn with(self, alloc: Global, script: Script) -> Result<Scripts, NoMemory>
         requires { CanRun script }
         ensures { IfOk result (λ more. more ≡ self ++ script ∷ []) }
@@ -88,8 +88,8 @@ impl Scripts {
         &self.scripts[id.0 as usize]
     }
 
-    /// The script with this owner, name and descriptor. It takes no memory, and about as long
-    /// however many scripts there are.
+    /// The script with this owner, name and descriptor. It takes no memory, and about the same time
+    /// for any number of scripts.
     pub fn find(&self, owner: &[u8], name: &[u8], descriptor: &[u8]) -> Option<ScriptId>
         ensures found { result ≡ script_named self.now owner.now name.now descriptor.now }
         ensures within { IfSome result (λ id. id.0 < length self.now) }

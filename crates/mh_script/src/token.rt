@@ -9,7 +9,7 @@ use mh_texts::{LiteralError, read_literal};
 use mh_values::{Classes, Str, Value};
 use std::alloc::Global;
 
-/// How many characters may stand after the first of a register.
+/// How many characters may follow the first of a register.
 const MOST_MORE: usize = 15;
 
 /// What a register holds.
@@ -192,7 +192,7 @@ pub(crate) fn text_literal(
     }
 }
 
-/// Whether a colon stands in a token.
+/// Whether a token has a colon.
 pub(crate) fn has_colon(token: &[u8]) -> bool
     ensures { result ≡ has_colon token.now }
 {

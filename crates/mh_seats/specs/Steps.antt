@@ -1,9 +1,9 @@
--- What a step leaves of a seat.
+-- How a step changes a seat.
 use Rattle.std.specs.Prelude.{◌≡◌, []}
 use Rattle.atomic_table.specs.Seated.{TableId}
 use Rattle.atomic_table.specs.declared.shared.Seat.{Seat}
 
--- the seat stays at its table, with what it carries, and its view has changed so
+-- the seat stays at its table and keeps what it carries, and its view changes in this way
 abbrev pub Moves : {S V : Type 0} → (V → V) → Seat S V → Seat S V → Type 0
 Moves change old new = (new.table_id ≡ old.table_id) × (new.me ≡ (change old.me.0, old.me.1))
 

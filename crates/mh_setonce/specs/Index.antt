@@ -1,7 +1,7 @@
 -- An index of items by the buckets of their hashes: for each bucket its latest place, and for each place the one before it in its bucket.
 use Rattle.std.specs.Prelude.{◌≡◌, ℕ, suc, ◌<◌, ◌≤◌, ◌%◌, ◌^◌, ◌⊎◌, List, length, map, slice_index}
 
--- the buckets of hashes, where there are so many buckets
+-- the buckets of hashes, if there are this many buckets
 abbrev pub buckets_of : ℕ → List ℕ → List ℕ
 buckets_of count hashes = map (λ hash. hash % count) hashes
 
@@ -27,6 +27,6 @@ pub record AreIndexed (hashes newest before : List ℕ) : Type 0 where
   pub fits : length hashes ≤ length newest
   pub sized : IsSize (length newest)
 
--- the place, written one higher, is 0, or that of an item with the bucket of the hash
+-- the place, written one higher, is 0, or that of an item in the bucket of the hash
 abbrev pub LeadsTo : List ℕ → List ℕ → ℕ → ℕ → Type 0
 LeadsTo hashes newest hash place = (k : ℕ) → place ≡ suc k → (k < length hashes) × (slice_index hashes k % length newest ≡ hash % length newest)

@@ -9,6 +9,6 @@ use Rattle.once_cell.specs.declared.race.note.Note.{Note}
 abbrev pub shows_value : (R : RattleType) → ℕ → R.Denot → Fml
 shows_value R γ x = fres γ (mark R γ x)
 
--- a note that stays as it is tells of its cell that it has this value
+-- a note that stays as it is says that its cell has this value
 abbrev pub NoteShows : {T : Type 0} → Note T → Note T → ℕ → T → Type 0
 NoteShows old new cell value = (new ≡ old) × (cell ≡ old.cell) × (old.known ≡ Some value)

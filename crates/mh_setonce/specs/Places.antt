@@ -1,12 +1,12 @@
--- Items by their hashes: what contracts see, and where the items of one hash stand.
+-- Items by their hashes: what contracts see, and at which places the items of one hash are.
 use Rattle.std.specs.Prelude.{◌≡◌, ◌≢◌, ℕ, ◌<◌, List, map, slice_index, Option, Some, None}
 
--- the hash of the item at each place, and how many items more can be added without memory
+-- the hash of the item at each place, and how many more items can be added without memory
 pub record PlacesView : Type 0 where
   pub hashes : List ℕ
   pub room : ℕ
 
--- the latest place below a bound whose item has the hash, or none where no item below the bound has it
+-- the latest place below a bound whose item has the hash, or none if no item below the bound has it
 abbrev pub IsLatest : List ℕ → ℕ → ℕ → Option ℕ → Type 0
 IsLatest hashes hash bound None = (i : ℕ) → i < bound → slice_index hashes i ≢ hash
 IsLatest hashes hash bound (Some place) = (place < bound) × (slice_index hashes place ≡ hash) × ((i : ℕ) → place < i → i < bound → slice_index hashes i ≢ hash)

@@ -14,7 +14,7 @@ abbrev pub PutIn : {V K : Type 0} → (V → K) → List V → List V → V → 
 PutIn {V} key before after value (Mine node) = (node.now ≡ value) × ((rest : List V) × (after ≡ (before ++ rest) ++ value ∷ []))
 PutIn key before after value (Theirs node back) = (back ≡ value) × Has key after (key value) node.now
 
--- ours is handed back; where the chain is full, the walk has a node for each cell, and none with its key
+-- ours is handed back; if the chain is full, the walk has a node for each cell, and none with its key
 abbrev pub Refused : {V K : Type 0} → (V → K) → List V → ChainView → V → PutRefused V → Type 0
 Refused key after chain value (NoMemory back) = back ≡ value
 Refused key after chain value (Full back) = (back ≡ value) × (length after ≡ room_of chain) × Lacks key after (key value)
@@ -24,7 +24,7 @@ abbrev pub Puts : {V K : Type 0} → (V → K) → WalkView V → WalkView V →
 Puts key before after value (Ok put) = PutIn key before.nodes after.nodes value put
 Puts key before after value (Err refused) = Refused key after.nodes after.chain value refused
 
--- ours is the next node, or it is handed back, where another one may have been learnt
+-- ours is the next node; or it is handed back, and another one may have been learnt
 abbrev pub TriedOnce : {V : Type 0} → List V → List V → V → Tried V → Type 0
 TriedOnce before after value (tried.Mine node) = (node.now ≡ value) × (after ≡ before ++ value ∷ [])
 TriedOnce before after value (tried.Again back) = (back ≡ value) × StartsWith after before

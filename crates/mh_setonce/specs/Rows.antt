@@ -11,11 +11,11 @@ abbrev pub cells_of : List (List ℕ) → List ℕ
 cells_of [] = []
 cells_of (row ∷ rows) = row ++ cells_of rows
 
--- each row has so many cells
+-- each row has this many cells
 abbrev pub AreSized : ℕ → List (List ℕ) → Type 0
 AreSized size rows = (i : ℕ) (row : List ℕ) → slice_get rows i ≡ Some row → length row ≡ size
 
--- the boxes of rows of this size have place for so many cells
+-- the boxes of rows of this size have place for this many cells
 abbrev pub HasRoom : ℕ → List ℕ → ℕ → Type 0
 HasRoom size boxes room = room ≤ length boxes * size
 
@@ -34,17 +34,17 @@ pub record AreRows (size : ℕ) (chain : ChainView) (rows : List (LearntView (Li
   pub boxed : StartsWith chain.rows (names_of rows)
   pub sized : AreSized size (nodes_of rows)
 
--- a walk along these cells: its nodes are the values of the first cells, no two have one key, and they are indexed by their hashes
+-- a walk along these cells: its nodes are the values of the first cells, no two have the same key, and they are indexed by their hashes
 pub record IsWalk {V K : Type 0} (key : V → K) (hash : K → ℕ) (rows : RowsView) (ls : List (LearntView V)) (hashes : List ℕ) : Type 0 where
   pub noted : StartsWith rows.cells (names_of ls)
   pub within : length ls ≤ rows.chain.room
   pub distinct : Distinct key (nodes_of ls)
   pub indexed : hashes ≡ hashes_of key hash (nodes_of ls)
 
--- the node was added, and its key is new; or nothing changed
+-- a node with a new key was added, or nothing changed
 abbrev pub Kept : {V K : Type 0} → (V → K) → List (LearntView V) → LearntView V → List (LearntView V) → Type 0
 Kept key ls one more = ((more ≡ ls ++ one ∷ []) × Lacks key (nodes_of ls) (key (node_of one))) ⊎ (more ≡ ls)
 
--- cells that both of two lists begin
+-- the cells with which two lists both begin
 abbrev pub Share : List ℕ → List ℕ → Type 0
 Share a b = (cells : List ℕ) × StartsWith cells a × StartsWith cells b

@@ -15,9 +15,9 @@ use std::alloc::Global;
 use std::marker::Model;
 use std::sync::Wait;
 
-/// Cells in order, each of which is set once and never changes again; the nodes are their values.
-/// The cells lie in rows, and a row is made when its first cell is used. Contracts see the names of
-/// the boxes of the rows, and how many cells there are.
+/// Cells in order, each set once; then it never changes. The nodes are their values. The cells are
+/// in rows, and a row is made when its first cell is used. Contracts see the names of the boxes of
+/// the rows, and how many cells there are.
 #[derive(Drop)]
 pub struct Chain<V: Keyed> {
     rows: Vec<OnceBox<Row<V>>>,
@@ -41,7 +41,8 @@ impl<V: Keyed> Model for Chain<V> {
 }
 
 impl<V: Keyed> Chain<V> {
-    /// A chain of so many cells, none of which is set. It takes memory for its rows' boxes alone.
+    /// A chain of this many cells, none of them set. It takes memory only for the boxes of its
+    /// rows.
     pub fn new(alloc: Global, room: u32) -> Result<Chain<V>, NoMemory>
         ensures { IfOk result (λ chain. room_of chain ≡ room) }
     {
@@ -86,8 +87,8 @@ impl<V: Keyed> Chain<V> {
     /// The node with the value's key: the value itself, unless another one was put before it. Every
     /// refusal hands the value back.
     ///
-    /// Where a cell that another put has filled shows a key that the walk has already, it looks
-    /// again, for which it takes `rt`.
+    /// If a cell that another put has filled shows a key that the walk has already, it looks again.
+    /// It takes `rt` for this.
     pub fn find_or_put<'t, R: Wait>(
         &'t self,
         rt: &R,
@@ -110,7 +111,7 @@ impl<V: Keyed> Chain<V> {
         unreachable!()
     }
 
-    /// The length of the shorter of two walks of this chain, which the other one begins with.
+    /// The length of the shorter of two walks of this chain. The other walk begins with it.
     pub fn meet(&self, a: &Walk<V>, b: &Walk<V>) -> usize
         requires { (a.now.chain ≡ self.now) × (b.now.chain ≡ self.now) }
         ensures { Meet a.now.nodes b.now.nodes result }
@@ -120,7 +121,7 @@ impl<V: Keyed> Chain<V> {
     }
 }
 
-// One try of a put, which hands the value back where it may be tried again.
+// One try of a put, which hands the value back if it may be tried again.
 fn put_once<'t, V: Keyed>(
     alloc: Global,
     walk: &mut Walk<'t, V>,

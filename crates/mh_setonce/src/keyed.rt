@@ -20,7 +20,7 @@ pub trait Keyed: Drop {
     fn has_key(&self, key: &Self::Key) -> bool
         ensures { IsTrue result ↔ (Self.key_of self.now ≡ key.now) };
 
-    /// Whether both values have one key. It takes no memory.
+    /// Whether both values have the same key. It takes no memory.
     fn same_key(&self, other: &Self) -> bool
         ensures { IsTrue result ↔ (Self.key_of self.now ≡ Self.key_of other.now) };
 
@@ -28,7 +28,7 @@ pub trait Keyed: Drop {
     fn hash(&self) -> u32
         ensures { result ≡ Self.hash_of (Self.key_of self.now) };
 
-    /// The hash of a key: where the hashes of two keys differ, a chain does not compare them. It
+    /// The hash of a key: if the hashes of two keys differ, a chain does not compare them. It
     /// takes no memory.
     fn hash_key(key: &Self::Key) -> u32
         ensures { result ≡ Self.hash_of key.now };

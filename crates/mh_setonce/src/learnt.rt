@@ -5,7 +5,7 @@ use crate::mark::Mark;
 use once_cell::race::OnceBox;
 use std::marker::Model;
 
-/// A value beside what shows that its cell holds it for good. Contracts see the value and the name
+/// A value, with what shows that its cell holds it for good. Contracts see the value and the name
 /// of the cell.
 #[derive(Drop)]
 pub(crate) struct Learnt<'t, V> {
@@ -46,7 +46,7 @@ impl<'t, V> Learnt<'t, V> {
         self.node
     }
 
-    /// The same once more. It takes no memory.
+    /// A copy. It takes no memory.
     pub(crate) fn copy(&self) -> Learnt<'t, V>
         ensures { result ≡ self.now }
     {
@@ -66,7 +66,7 @@ impl<'t, V> Learnt<'t, V> {
 }
 
 impl<'t, V: Drop> Learnt<'t, V> {
-    /// What the cell shows from now on, and the value where the cell had another one.
+    /// What the cell shows from now on, and the value if the cell had another one.
     pub(crate) fn put(cell: &'t OnceBox<V>, value: Box<V>) -> (Learnt<'t, V>, Option<Box<V>>)
         ensures noted { result.0.cell ≡ cell_name cell.entry.now }
         ensures mine { IfNone result.1 (result.0.node ≡ value.value) }

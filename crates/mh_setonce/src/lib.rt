@@ -1,4 +1,4 @@
-//! Chains of cells that are each set once, and walks along them, which agree wherever they meet.
+//! Chains of cells that are each set once, and walks along them, which agree as far as both go.
 #![tactic(auto)]
 
 mod chain;

@@ -6,9 +6,9 @@ use mh_base::NoMemory;
 use std::alloc::Global;
 use std::marker::Model;
 
-/// Places of items by their hashes, where the items stand in a list of their own: who looks for an
-/// item meets the places of its hash, the latest first. Adding n items is linear in n. Contracts
-/// see the hash of the item at each place, and how many more can be added without memory.
+/// Places of items by their hashes; the items are in a list of their own. A search for an item goes
+/// through the places of its hash, the latest first. Adding n items is linear in n. Contracts see
+/// the hash of the item at each place, and how many more can be added without memory.
 #[derive(Drop)]
 pub struct Places {
     hashes: Vec<u32>,
@@ -44,7 +44,7 @@ impl Places {
         }
     }
 
-    /// No items, and memory for so many.
+    /// No items, and memory for this many.
     fn with_room(alloc: Global, room: usize) -> Result<Places, NoMemory>
         requires { IsSize room }
         ensures { IfOk result (λ places. places ≡ record { hashes = []; room = room }) }
@@ -76,7 +76,7 @@ impl Places {
         self.newest[bucket] = self.hashes.len();
     }
 
-    /// The same items, with memory for so many.
+    /// The same items, with memory for this many.
     fn copy_with_room(&self, room: usize) -> Result<Places, NoMemory>
         requires fits { length self.now.hashes ≤ room }
         requires size { IsSize room }
@@ -97,7 +97,7 @@ impl Places {
         self.copy_with_room(self.newest.len())
     }
 
-    /// Takes memory for one item more.
+    /// Takes memory for one more item.
     pub fn reserve(&mut self) -> Result<(), NoMemory>
         ensures hashes { self.new.hashes ≡ self.old.hashes }
         ensures room { OnOk result (1 ≤ self.new.room) }

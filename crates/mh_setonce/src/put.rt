@@ -3,7 +3,7 @@
 pub enum Put<'t, V> {
     /// The value that was put is the chain's, for good.
     Mine(&'t V),
-    /// Another one stood before the place of ours, which is handed back.
+    /// Another value with the key was put before. Ours is handed back.
     Theirs(&'t V, V),
 }
 

@@ -26,7 +26,7 @@ impl<V: Keyed> Model for Row<V> {
 }
 
 impl<V: Keyed> Row<V> {
-    /// A row of which no cell is set.
+    /// A row with no cell set.
     pub(crate) fn new(alloc: Global) -> Result<Row<V>, NoMemory>
         ensures { IfOk result (λ row. length row ≡ V.row_size) }
     {
@@ -38,7 +38,7 @@ impl<V: Keyed> Row<V> {
         Ok(Row { cells })
     }
 
-    /// A row of which no cell is set, in a box.
+    /// A row with no cell set, in a box.
     pub(crate) fn boxed(alloc: Global) -> Result<Box<Row<V>>, NoMemory>
         ensures { IfOk result (λ row. length row.value ≡ V.row_size) }
     {

@@ -109,7 +109,7 @@ impl<'t, V: Keyed> Rows<'t, V> {
         Ok(true)
     }
 
-    // Learns the next row, which is made unless it was made before.
+    // Learns the next row. It is made, unless it was made before.
     fn make(&mut self, alloc: Global) -> Result<(), NoMemory>
         requires { length self.old.cells < self.old.chain.room }
         ensures chain { self.new.chain ≡ self.old.chain }
@@ -142,8 +142,8 @@ impl<'t, V: Keyed> Rows<'t, V> {
         Ok(Some(self.cell(at)))
     }
 
-    /// The cell at this place, whose row is made unless it was made before.
-    pub(crate) fn made(&mut self, alloc: Global, at: usize) -> Result<&'t OnceBox<V>, NoMemory>
+    /// The cell at this place. Its row is made, unless it was made before.
+    pub(crate) fn make_cell(&mut self, alloc: Global, at: usize) -> Result<&'t OnceBox<V>, NoMemory>
         requires next { at ≤ length self.old.cells }
         requires room { at < self.old.chain.room }
         ensures chain { self.new.chain ≡ self.old.chain }

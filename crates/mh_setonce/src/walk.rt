@@ -83,7 +83,7 @@ impl<'t, V: Keyed> Walk<'t, V> {
         scan::with_key_of(self.learnt.as_slice(), &self.places, value)
     }
 
-    /// Takes memory for one node more.
+    /// Takes memory for one more node.
     pub fn reserve(&mut self) -> Result<(), NoMemory>
         ensures { self.new ≡ self.old }
     {
@@ -131,7 +131,8 @@ impl<'t, V: Keyed> Walk<'t, V> {
         self.learnt.len() >= self.rows.room()
     }
 
-    /// Puts the value into the next cell, unless that has another one by now, which is learnt.
+    /// Puts the value into the next cell, unless that has another value by now. The walk then
+    /// learns that one.
     pub(crate) fn try_put(&mut self, alloc: Global, value: V) -> Tried<'t, V>
         requires room { length self.old.nodes ≢ room_of self.old.chain }
         requires new { Lacks V.key_of self.old.nodes (V.key_of value) }
@@ -142,7 +143,7 @@ impl<'t, V: Keyed> Walk<'t, V> {
         if scan::reserve(&mut self.learnt, &mut self.places).is_err() {
             return Tried::NoMemory(value);
         }
-        let Ok(cell) = self.rows.made(alloc, self.learnt.len()) else {
+        let Ok(cell) = self.rows.make_cell(alloc, self.learnt.len()) else {
             return Tried::NoMemory(value);
         };
         let boxed = match Box::new(alloc, value) {

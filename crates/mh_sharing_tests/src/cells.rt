@@ -10,7 +10,7 @@ use std::test::Fail;
 use std::thread;
 use std::thread::Threads;
 
-/// Puts an entry into the cell of its key, and answers who put the one that stands there; 0 where
+/// Puts an entry into the cell of its key, and answers who put the one that stands there; 0 if
 /// no memory is left.
 fn put<R: Wait>(rt: &R, alloc: Global, known: &mut Known<Entry<Single>>, key: u32, by: u32) -> u32
     requires { key < length known.old.cells }

@@ -22,7 +22,7 @@ fn draw_all(tickets: &Tickets, mut seat: TicketSeat) -> TicketSeat
     seat
 }
 
-/// Two threads beside each other: their seats made one.
+/// Two concurrent threads: their seats, joined to one.
 fn draw_two<R: Threads + Sync>(
     rt: &R,
     tickets: &Tickets,

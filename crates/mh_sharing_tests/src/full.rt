@@ -8,7 +8,7 @@ use std::alloc::Global;
 use std::sync::Wait;
 use std::test::Fail;
 
-/// Holds so many types of bucket 7 beside the one that is held: those with the numbers from 1 on.
+/// Holds this many types of bucket 7 beside the one that is held: those with the numbers from 1 on.
 fn fill<R: Wait>(
     rt: &R,
     alloc: Global,

@@ -10,7 +10,7 @@ use std::sync::atomic::{AtomicBool, AtomicU64, Ordering};
 const TURNS: u64 = 2_000_000_000;
 
 /// A linking of 4,096 items, whose pass counts how many it has linked. The first call of all waits
-/// until so many others are done, and one item stops its worker.
+/// until this many others are done, and one item stops its worker.
 #[derive(Drop)]
 pub(crate) struct Held {
     others: u64,

@@ -1,5 +1,5 @@
 //! What threads share: chains, cells in a row, numbers that are drawn, the table of types, and
-//! items that workers link beside each other.
+//! items that workers link concurrently.
 #![tactic(auto)]
 
 mod both;

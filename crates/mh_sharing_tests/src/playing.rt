@@ -102,7 +102,7 @@ fn joined(table: &TypeTable, mut seat: TypeSeat, other: TypeSeat) -> TypeSeat
     seat
 }
 
-/// Two threads beside each other: their seats made one, and what each holds.
+/// Two concurrent threads: their seats, joined to one, and what each holds.
 fn play_two<R: Threads + Wait + Sync>(
     rt: &R,
     alloc: Global,

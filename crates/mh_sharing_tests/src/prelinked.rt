@@ -21,11 +21,11 @@ fn no_worker_waits_for_another(rt: HostRuntime) -> Result<(), Fail> {
     assert!(rt; !held.gave_up());
     assert_eq!(rt; workers.len(), 2);
     for item in 0..8 {
-        assert_eq!(rt; takers(&workers, item), 1);
+        assert_eq!(rt; takers(&workers, item), 1, "item {item}");
     }
     for worker in workers.as_slice() {
         let count = worker.taken.len();
-        assert!(rt; count == 1 || count == 7);
+        assert!(rt; count == 1 || count == 7, "{count} items");
         assert!(rt; worker.pass as usize == count && worker.stop.is_none());
     }
     Ok(())

@@ -8,7 +8,7 @@ use std::test::Fail;
 use std::thread;
 use std::thread::Threads;
 
-/// A walk through which so many keys were put.
+/// A walk through which this many keys were put.
 fn put_all<'t, S: Size, R: Wait>(
     rt: &R,
     alloc: Global,
@@ -48,7 +48,7 @@ fn race<S: Size + Send + Sync, R: Threads + Wait + Sync>(
 fn threads_that_race_agree_over_the_borders_of_rows(rt: HostRuntime) -> Result<(), Fail> {
     let chain: Chain<Entry<Wide>> = Chain::new(rt.alloc(), 300)?;
     let (both, len) = race(&rt, rt.alloc(), &chain, 300);
-    assert!(rt; both == 300 && len == 300);
+    assert!(rt; both == 300 && len == 300, "{both} of {len}");
     Ok(())
 }
 
@@ -56,6 +56,6 @@ fn threads_that_race_agree_over_the_borders_of_rows(rt: HostRuntime) -> Result<(
 fn threads_that_race_agree_in_rows_of_one_cell(rt: HostRuntime) -> Result<(), Fail> {
     let chain: Chain<Entry<Single>> = Chain::new(rt.alloc(), 64)?;
     let (both, len) = race(&rt, rt.alloc(), &chain, 40);
-    assert!(rt; both == 40 && len == 40);
+    assert!(rt; both == 40 && len == 40, "{both} of {len}");
     Ok(())
 }

@@ -17,7 +17,7 @@ pub fn method(alloc: Global, params: &[Ty], ret: Option<Ty>) -> Result<MethodTy,
     Ok(MethodTy { params: list, ret })
 }
 
-/// A method type with so many `int` parameters.
+/// A method type with this many `int` parameters.
 pub fn ints(alloc: Global, count: usize, ret: Option<Ty>) -> Result<MethodTy, NoMemory>
     ensures { IfOk result (λ ty. ty.ret ≡ ret) }
 {

@@ -20,7 +20,7 @@ basic_text L = codes "L"
 basic_text I = codes "I"
 basic_text J = codes "J"
 
--- the letter of a result, `V` where there is none
+-- the letter of a result, `V` if there is none
 abbrev pub ret_text : BasicRet → List ℕ
 ret_text V = codes "V"
 ret_text (Is basic) = basic_text basic
@@ -61,7 +61,7 @@ places_text places = flat_map place_text places
 abbrev pub others_text : ℕ → ℕ → List ℕ
 others_text init body = codes ", " ++ decimal init ++ codes ", " ++ decimal body
 
--- a key: the word of its kind and what it has; of a conversion the new types, and of a permutation the new parameters and the place of each old one
+-- A key: the word of its kind and what it has. A conversion has the new types. A permutation has the new parameters, and the place of each old one.
 abbrev pub key_text : Key → List ℕ
 key_text (key.LeafRoot shape) = codes "LeafRoot of " ++ shape_text shape
 key_text (key.ConstRoot basic) = codes "ConstRoot of " ++ basic_text basic

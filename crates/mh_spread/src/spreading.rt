@@ -170,7 +170,7 @@ pub fn spread<'t, R: Wait>(
 {
     let spreading = match spreading_of(w, &target, array, count) {
         Ok(spreading) => spreading,
-        Err(error) => return target.refused(w, error),
+        Err(error) => return target.refuse(w, error),
     };
     let Spreading {
         component,

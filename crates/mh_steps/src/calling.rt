@@ -15,7 +15,8 @@ use mh_values::{Items, are_typed};
 use std::alloc::Global;
 
 /// Calls a handle by its own type, as the first of its invocation, twice in one machine; the second
-/// call answers. Arguments that do not have the types of its parameters are told as want of memory.
+/// call answers. Arguments that do not have the types of its parameters are answered as lack of
+/// memory.
 pub fn call_typed<'t>(
     alloc: Global,
     handle: &Handle<'t>,

@@ -14,7 +14,7 @@ use mh_more::{Handles, with_first};
 use mh_values::LeafId;
 use std::sync::Wait;
 
-/// The handle of a leaf. A number that no leaf has is told as want of memory.
+/// The handle of a leaf. A number that no leaf has is answered as lack of memory.
 pub(crate) fn leaf_at<'t, R: Wait>(
     w: &mut Work<'_, 't>,
     rt: &R,

@@ -9,7 +9,7 @@ use mh_texts::read_literal;
 use mh_values::{Classes, Items, MethodTy, Value, read_descriptor};
 use std::alloc::Global;
 
-/// The type of a descriptor. A text that is none is told as want of memory.
+/// The type of a descriptor. A text that is none is answered as lack of memory.
 pub(crate) fn type_of(alloc: Global, text: &str, classes: &Classes) -> Result<MethodTy, NoMemory>
     ensures { IfOk result (λ ty. desc classes.now text.now ≡ Ok ty) }
 {
@@ -19,7 +19,7 @@ pub(crate) fn type_of(alloc: Global, text: &str, classes: &Classes) -> Result<Me
     }
 }
 
-/// The value of a literal. A text that is none is told as want of memory.
+/// The value of a literal. A text that is none is answered as lack of memory.
 pub(crate) fn value_of(alloc: Global, text: &str, classes: &Classes) -> Result<Value, NoMemory>
     ensures { IfOk result (λ value. literal_of classes.now text.now ≡ Some value) }
 {
@@ -29,7 +29,7 @@ pub(crate) fn value_of(alloc: Global, text: &str, classes: &Classes) -> Result<V
     }
 }
 
-/// The values of literals, in order. A text that is no literal is told as want of memory.
+/// The values of literals, in order. A text that is no literal is answered as lack of memory.
 pub fn items_of(alloc: Global, texts: &[&str], classes: &Classes) -> Result<Items, NoMemory>
     ensures { IfOk result (λ items. length items ≡ length texts.now) }
 {

@@ -20,7 +20,7 @@ use mh_spread::spread;
 use mh_values::{LeafId, MethodTy};
 use std::sync::Wait;
 
-/// Want of memory, for which a handle is given back.
+/// Lack of memory, after a handle is given back.
 fn given_back<'t>(w: &mut Work<'_, 't>, handle: Handle<'t>) -> HandleError
     requires of_types { w.old.seat.now.table ≡ w.old.types.now }
     requires held { HoldsTypes w.old handle.held }

@@ -56,7 +56,7 @@ fn caught<'t, R: Wait>(
 /// One case more than a switch may have.
 const MOST_CASES: usize = 17;
 
-/// A switch. Over 17 cases are told as want of memory.
+/// A switch. More than 17 cases are answered as lack of memory.
 fn switched<'t, R: Wait>(
     w: &mut Work<'_, 't>,
     rt: &R,

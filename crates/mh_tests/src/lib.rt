@@ -1,4 +1,4 @@
-//! Of whole runs what no case shows: threads that race, want of memory, each write that fails; two
+//! Of whole runs what no case shows: threads that race, lack of memory, each write that fails; two
 //! passes of one linker; and the outside.
 #![tactic(auto)]
 

@@ -156,7 +156,7 @@ fn recorded_after(gate: &TestGate, count: &AtomicU64, thread: u32) -> u64 {
     others
 }
 
-/// The same of threads 0 and 1, which run beside each other.
+/// The same of threads 0 and 1, which run concurrently.
 fn both_recorded_after<R: Threads>(rt: &R, gate: &TestGate) -> (u64, u64) {
     let count = AtomicU64::new(0);
     thread::join(

@@ -38,7 +38,7 @@ const SCRIPTS: &[u8] = b"\
     return b\n\
     end\n";
 
-/// By which attempt a site was resolved, first and then once more, and how many attempts were made
+/// The attempt that resolved a site, the first and the second time, and how many attempts were made
 /// for both.
 #[derive(Clone, Copy, PartialEq, Eq)]
 struct Resolved {

@@ -45,7 +45,7 @@ fn site(alloc: Global) -> Result<MadeSite, NoMemory>
     })
 }
 
-/// So many of these call sites.
+/// This many of these call sites.
 fn sites(alloc: Global, count: u32) -> Result<MadeSites, NoMemory>
     requires { count ≤ 9000 }
     ensures { IfOk result (λ sites. AreMakeable sites) }
@@ -57,7 +57,7 @@ fn sites(alloc: Global, count: u32) -> Result<MadeSites, NoMemory>
     Ok(sites)
 }
 
-/// A class file with so many of these call sites.
+/// A class file with this many of these call sites.
 fn class_file(alloc: Global, count: u8) -> Result<Vec<u8>, NoMemory> {
     let sites = sites(alloc, u32::from(count))?;
     make_class(alloc, &sites)
@@ -130,7 +130,7 @@ fn run<R: Threads + Wait + Sync, G: Gate + Sync>(
     run_words(rt, alloc, &WORDS, input, gate)
 }
 
-/// The words of a run with workers, of which the last one says how many.
+/// The words of a run with workers; the last one says how many.
 fn words_with(workers: &str) -> [&str; 10] {
     [
         "--mode",
@@ -296,7 +296,7 @@ fn are_linked(attempts: &[Attempt], table: &[Option<u64>]) -> bool {
     true
 }
 
-/// Whether a run is done that links each of so many sites by one of its attempts.
+/// Whether a run is done that links each of this many sites by one of its attempts.
 fn is_in_order(answer: &TopAnswer, sites: u8) -> bool {
     let attempts = answer.attempts.as_slice();
     let table = answer.table.as_slice();
@@ -343,7 +343,7 @@ fn each_site_is_linked_by_one_of_its_attempts(rt: HostRuntime) -> Result<(), Fai
 /// How many threads race for the site.
 const MOST_THREADS: usize = 64;
 
-/// Whether so many calls return, all of them the same.
+/// Whether this many calls return, all of them the same.
 fn are_alike(text: &[u8], count: usize) -> bool {
     let Some(first) = text
         .split(|byte| *byte == b'\n')
@@ -369,7 +369,7 @@ fn all_of_64_threads_get_one_linkage(rt: HostRuntime) -> Result<(), Fail> {
     Ok(())
 }
 
-/// Whether one of so many workers made an attempt, which have the numbers after those of the
+/// Whether one of this many workers made an attempt, which have the numbers after those of the
 /// threads.
 fn is_by_worker(attempt: &Attempt, threads: u32, workers: u32) -> bool {
     match attempt.thread.checked_sub(threads) {

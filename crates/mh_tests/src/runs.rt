@@ -60,8 +60,8 @@ fn run<R: Threads + Wait + Sync>(rt: &R, alloc: Global) -> Result<(u8, MemorySin
     Ok((answer.status, sink))
 }
 
-/// Whether a run is whole. Where an allocation fails, it ends for want of memory and nothing written, or
-/// the sink, which keeps its bytes in memory, has failed.
+/// Whether a run is whole. If an allocation fails, it ends for lack of memory with nothing written,
+/// or the sink, which keeps its bytes in memory, has failed.
 fn is_whole_or_nothing(status: u8, sink: &MemorySink) -> bool {
     match status {
         DONE => sink.bytes.as_slice() == TEXT.as_bytes(),

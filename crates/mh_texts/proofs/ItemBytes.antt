@@ -1,5 +1,5 @@
 -- Bytes that any item may have, and the texts that have such bytes alone.
-use Rattle.std.proofs.Common.{◌≡◌, refl, ap, ◌∙◌, suc, ℕ, ◌-◌, ◌^◌, ◌<◌, ◌≤◌, ◌==◌, ℤ, pos, negsuc, inl, inr, Bool, true, false, not, ◌&&◌, nat_le, List, [], ◌∷◌, codes, arith}
+use Rattle.std.proofs.Common.{◌≡◌, refl, ap, ◌∙◌, suc, ℕ, ◌^◌, ◌<◌, ◌≤◌, ◌==◌, ℤ, pos, negsuc, inl, inr, Bool, true, false, not, ◌&&◌, nat_le, List, [], ◌∷◌, codes, arith}
 use Rattle.std.proofs.lemmas.Bool.{and_parts, and_from, or_cases, not_from_false, ne_eqb, le-leb, leb-true, ltb-true}
 use Rattle.std.proofs.lemmas.Fmt.{decimal_is_IsNumeral}
 use Rattle.std.proofs.lemmas.List.Concat.{flat_map-cons}

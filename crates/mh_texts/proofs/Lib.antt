@@ -2,6 +2,7 @@ mod ArrayTrip
 mod CommaCuts
 mod ComponentTrip
 pub mod Cuts
+mod Fronts
 mod HexTrip
 mod ItemAgain
 mod ItemBytes

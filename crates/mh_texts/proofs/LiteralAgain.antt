@@ -13,7 +13,7 @@ use Rattle.mh_values.specs.Classes.{name_of}
 use Rattle.mh_values.specs.TypeText.{component_text}
 use Rattle.mh_values.proofs.NamedClass.{named_is}
 use Rattle.mh_texts.specs.declared.literal.LiteralError.{LiteralError}
-use Rattle.mh_texts.specs.Characters.{is_graphic, comma}
+use Rattle.mh_texts.specs.Characters.{is_graphic}
 use Rattle.mh_texts.specs.Literal.{literal_of, TellsLiteral}
 use Rattle.mh_texts.specs.LiteralText.{item_written, items_written, literal_text}
 use Rattle.mh_texts.specs.Spells.{SpellsComponent, SpellsItemOf, SpellsMore, SpellsItems, SpellsArray, Spells}

@@ -18,7 +18,7 @@ is_hex_digit b = (nat_le digit_0 b && nat_le b digit_9) || (nat_le small_a b && 
 abbrev pub is_scalar : ℕ → Bool
 is_scalar n = nat_lt n 0xD800 || (nat_le 0xE000 n && nat_lt n 0x110000)
 
--- what may be written of a character: itself, where it is no backslash; `\s` of a space, `\c` of a comma, `\n` of LF, `\\` of a backslash;
+-- what may be written of a character: itself, if it is no backslash; `\s` of a space, `\c` of a comma, `\n` of LF, `\\` of a backslash;
 -- or `\u{..}` with one to six digits of its hexadecimal number
 pub data SpellsCharacter : List ℕ → ℕ → Type 0 where
   itself : (c : ℕ) → IsTrue (is_graphic c) → (c == ascii.backslash) ≡ false → SpellsCharacter (c ∷ []) c

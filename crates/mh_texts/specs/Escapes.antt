@@ -1,4 +1,4 @@
--- How the reader of a text goes from byte to byte; what a text is read as is said in Characters, without a reader.
+-- How the reader of a text goes from byte to byte. Characters says what a text is read as, without a reader.
 use Rattle.std.specs.Prelude.{ℕ, ◌+◌, ◌-◌, ◌*◌, ◌==◌, nat_le, nat_lt, Bool, true, false, ◌&&◌, if◌then◌else◌, List, [], ◌∷◌, length, Option, None, Some, option_map, option_and_then}
 use Rattle.mh_base.specs.Ascii.{backslash, comma, digit_0, digit_9, left_brace, line_feed, right_brace, small_a, small_c, small_f, small_n, small_s, small_u, space}
 use Rattle.mh_values.specs.ValueLimits.{most_characters}
@@ -12,7 +12,7 @@ hex_value b =
     if nat_le digit_0 b && nat_le b digit_9 then Some (b - digit_0)
     else (if nat_le small_a b && nat_le b small_f then Some (b - 87) else None)
 
--- a number, where it is a character
+-- a number, if it is a character
 abbrev pub scalar : ℕ → Option ℕ
 scalar n = if is_scalar n then Some n else None
 
@@ -66,10 +66,10 @@ abbrev pub characters_from : Escape → List ℕ → Option (List ℕ)
 characters_from e [] = if is_outside e then Some [] else None
 characters_from e (b ∷ bs) = option_and_then (λ s. option_map (in_front s.1) (characters_from s.0 bs)) (step e b)
 
--- a text, where it is not too long
+-- a text, if it is not too long
 abbrev pub if_short : List ℕ → Option (List ℕ)
 if_short cs = if nat_le (length cs) most_characters then Some cs else None
 
--- the characters that are written so
+-- the characters that a text writes
 abbrev pub text_of : List ℕ → Option (List ℕ)
 text_of bytes = option_and_then if_short (characters_from escape.Outside bytes)

@@ -38,7 +38,7 @@ use Rattle.mh_texts.specs.Escapes.{text_of}
 abbrev pub bool_of : List ℕ → Option Bool
 bool_of text = if bytes_eq text (codes "true") then Some true else (if bytes_eq text (codes "false") then Some false else None)
 
--- the primitive type before whose numbers a letter stands
+-- the primitive type whose numbers follow a letter
 abbrev pub primitive_marked : ℕ → Option Primitive
 primitive_marked letter =
     if letter == small_z then Some primitive.Z
@@ -61,7 +61,7 @@ number_meant primitive.S text = integer_meant primitive.S text
 number_meant primitive.I text = integer_meant primitive.I text
 number_meant primitive.J text = integer_meant primitive.J text
 
--- a number of the primitive type before whose numbers the letter stands
+-- a number of the primitive type whose numbers follow the letter
 abbrev pub marked_number : ℕ → List ℕ → Option Num
 marked_number letter text = option_and_then (λ p. number_meant p text) (primitive_marked letter)
 
@@ -91,7 +91,7 @@ exception_of classes text = option_and_then (if_exception classes) (class_named 
 
 -- ---- items
 
--- what stands after a letter and a colon: `z b c h i j` are numbers, `Z B C H I J` boxed ones, `s` is a text, `o` an object, `x` an exception
+-- what follows a letter and a colon: `z b c h i j` are numbers, `Z B C H I J` boxed ones, `s` is a text, `o` an object, `x` an exception
 abbrev pub tagged : List Class → ℕ → List ℕ → Option Cell
 tagged classes letter text =
     if letter == small_s then option_map cell.Text (text_of text)
@@ -156,7 +156,7 @@ literal_of classes token =
     if bytes_eq (take 2 token) (codes "a:") then array_of_literal classes (drop 2 token)
     else option_map value_of_item (item_of classes token)
 
--- an answer that is what was meant, or that nothing was, unless memory ran out
+-- the answer is the meaning of the token, or that it has none, unless memory ran out
 abbrev pub TellsLiteral : {A : Type 0} → Result A LiteralError → Option A → Type 0
 TellsLiteral (Ok a) meant = meant ≡ Some a
 TellsLiteral (Err literal_error.NoMemory) meant = Unit {0}

@@ -1,4 +1,4 @@
--- Values as literals, also where the names of classes are written in another way.
+-- Values as literals, also if the names of classes are written in another way.
 use Rattle.std.specs.Prelude.{ℕ, ◌-◌, List, [], ◌∷◌, ◌++◌, codes, flat_map, Bool, true, false}
 use Rattle.std.specs.Fmt.{decimal, signed_decimal}
 use Rattle.mh_base.specs.Ascii.{colon, small_b, small_c, small_h, small_i, small_j, small_z}
@@ -35,15 +35,15 @@ mark_of primitive.S = small_h
 mark_of primitive.I = small_i
 mark_of primitive.J = small_j
 
--- what stands before a number
+-- what comes before a number
 abbrev pub number_mark : Num → List ℕ
 number_mark n = mark_of (primitive_of n) ∷ colon ∷ []
 
--- what stands before a boxed number: the letter is a capital one
+-- what comes before a boxed number: the letter is a capital
 abbrev pub boxed_mark : Num → List ℕ
 boxed_mark n = (mark_of (primitive_of n) - 32) ∷ colon ∷ []
 
--- a number without what stands before it
+-- a number without what comes before it
 abbrev pub number_text : Num → List ℕ
 number_text (num.Z b) = bool_text b
 number_text (num.B n) = signed_decimal n

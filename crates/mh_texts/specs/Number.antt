@@ -13,10 +13,10 @@ is_long = is_signed 63
 abbrev pub writes : ℤ → List ℕ → Bool
 writes n text = bytes_eq (signed_decimal n) text || bytes_eq (codes "-0") text
 
--- the number of 64 bits that is written so
+-- the number of 64 bits that a text writes
 abbrev pub long_of : List ℕ → Option ℤ
 long_of text = let n = signed_digits_value 10 text in if is_long n && writes n text then Some n else None
 
--- the number from 0 to 4294967295 that is written so, without a sign
+-- the number from 0 to 4294967295 that a text writes, without a sign
 abbrev pub unsigned_of : List ℕ → Option ℕ
 unsigned_of text = let n = digits_value 10 (without_leading_plus text) in if nat_lt n (2 ^ 32) && bytes_eq (decimal n) text then Some n else None

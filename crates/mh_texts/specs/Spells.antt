@@ -70,7 +70,7 @@ pub record SpellsException (classes : List Class) (text : List ℕ) (exception :
 
 -- ---- items
 
--- a token, after what stands before all literals of its kind
+-- a token, after what comes before all literals of its kind
 pub record Marked (mark : List ℕ) (Spells : List ℕ → Type 0) (token : List ℕ) : Type 0 where
   pub text : List ℕ
   pub is : token ≡ mark ++ text

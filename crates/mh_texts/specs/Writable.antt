@@ -1,4 +1,4 @@
--- Values that a literal can write, and what is left of them there.
+-- Values that a literal can write, and what the literal keeps of them.
 use Rattle.std.specs.Prelude.{◌≡◌, ℕ, ◌<◌, ◌≤◌, ◌^◌, ◌==◌, Bool, false, not, ◌&&◌, ◌||◌, List, [], ◌∷◌, length, map, Some, IsTrue}
 use Rattle.std.specs.List.{list_all}
 use Rattle.mh_base.specs.Ascii.{backslash, comma, full_stop, left_bracket, number_sign, semicolon}
@@ -30,7 +30,7 @@ pub record IsPlainClass (classes : List Class) (c : ClassId) : Type 0 where
   pub named : 0 < length (name_of classes c)
   pub plain : IsTrue (list_all is_unescaped (name_of classes c))
 
--- characters, each of them a number that is one
+-- characters, by numbers that are characters
 abbrev pub AreScalars : List ℕ → Type 0
 AreScalars [] = Unit {0}
 AreScalars (c ∷ cs) = (scalar c ≡ Some c) × AreScalars cs

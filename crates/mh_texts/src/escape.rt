@@ -17,11 +17,11 @@ pub(crate) enum Escape {
     Backslash,
     /// After `\u`.
     Code,
-    /// After `\u{` and so many digits of a number.
+    /// After `\u{` and this many digits of a number.
     Digits(u8, u32),
 }
 
-/// Whether a character stands for itself where it is no backslash.
+/// Whether a character other than a backslash stands for itself.
 pub(crate) fn is_graphic(byte: u8) -> bool
     ensures { result ≡ is_graphic byte }
 {
@@ -39,7 +39,7 @@ fn hex_value(byte: u8) -> Option<u32>
     }
 }
 
-/// What stands after a backslash.
+/// What follows a backslash.
 fn after_backslash(byte: u8) -> Option<(Escape, Option<char>)>
     ensures { result ≡ after_backslash byte }
 {
@@ -65,7 +65,7 @@ fn one_digit_more(count: u8, value: u32, digit: u32) -> Option<(Escape, Option<c
     }
 }
 
-/// What stands within the braces of `\u{..}`.
+/// What is within the braces of `\u{..}`.
 fn within_braces(count: u8, value: u32, byte: u8) -> Option<(Escape, Option<char>)>
     ensures { result ≡ within_braces count value byte }
 {

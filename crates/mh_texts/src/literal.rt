@@ -70,7 +70,7 @@ fn read_bool(text: &[u8]) -> Option<bool>
     }
 }
 
-/// The primitive type before whose numbers a letter stands.
+/// The primitive type whose numbers follow a letter.
 fn marked(letter: u8) -> Option<Primitive>
     ensures { result ≡ primitive_marked letter }
 {
@@ -104,7 +104,7 @@ fn read_number(primitive: Primitive, text: &[u8]) -> Option<Num>
     }
 }
 
-/// The number that stands after a letter, which tells its type.
+/// The number after a letter, which gives its type.
 fn read_marked(letter: u8, text: &[u8]) -> Option<Num>
     ensures { result ≡ marked_number letter text.now }
 {
@@ -145,7 +145,7 @@ fn read_exception(classes: &Classes, name: &[u8]) -> Option<Cell>
     }
 }
 
-/// What stands after a letter and a colon.
+/// What follows a letter and a colon.
 fn read_tagged(
     alloc: Global,
     classes: &Classes,
@@ -267,7 +267,7 @@ fn read_array(alloc: Global, classes: &Classes, text: &[u8]) -> Result<Value, Li
     }
 }
 
-/// The value of a token: an array after `a:`, else an item.
+/// The value of a token: an array after `a:`, otherwise an item.
 fn read_value(alloc: Global, classes: &Classes, token: &[u8]) -> Result<Value, LiteralError>
     ensures { TellsLiteral result (literal_of classes.now token.now) }
 {
@@ -277,11 +277,12 @@ fn read_value(alloc: Global, classes: &Classes, token: &[u8]) -> Result<Value, L
     }
 }
 
-/// Reads the literal of a value: `z:`, `b:`, `c:`, `h:`, `i:` and `j:` a number of a primitive type
-/// (`h` is `short`, and a `char` is written as its number), the same letters as capitals a boxed one,
-/// `s:` a text, `null`, `o:CLASS#N` an object, `x:CLASS` an exception with an empty message,
-/// `a:COMP[ITEM,ITEM]` an array. In a text `\s` is a space, `\c` a comma, `\n` LF, `\\` a backslash,
-/// and `\u{H}` the character of a hexadecimal number.
+/// Reads the literal of a value: `z:`, `b:`, `c:`, `h:`, `i:` and `j:` begin a number of a
+/// primitive type; `h` is `short`, and a `char` is written as its number. The same letters as
+/// capitals begin a boxed number. `s:` begins a text, `o:CLASS#N` is an object, and `x:CLASS` an
+/// exception with an empty message. `a:COMP[ITEM,ITEM]` is an array, and `null` is null. In a text
+/// `\s` is a space, `\c` a comma, `\n` LF, `\\` a backslash, and `\u{H}` the character of a
+/// hexadecimal number.
 pub fn read_literal(alloc: Global, token: &[u8], classes: &Classes) -> Result<Value, LiteralError>
     ensures spelled { TellsSpelling classes.now token.now result }
     ensures tells { TellsLiteral result (literal_of classes.now token.now) }

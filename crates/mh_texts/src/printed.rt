@@ -1,4 +1,4 @@
-ghost use Rattle.std.specs.Prelude.{◌≡◌, ◌++◌, ◌≤◌, codes, flat_map, IfOk, OnOk};
+ghost use Rattle.std.specs.Prelude.{◌≡◌, ◌∷◌, ◌++◌, [], ◌<◌, ◌≤◌, codes, flat_map, take, IfOk, OnOk};
 ghost use Rattle.std.specs.Fmt.{signed_decimal, decimal};
 ghost use Rattle.mh_values.specs.TypeText.{primitive_text};
 ghost use Rattle.mh_texts.specs.Text.{numbered_char, escaped_char, escaped, cut};
@@ -12,7 +12,7 @@ use mh_values::{Cell, ClassId, Classes, Comp, Exc, MethodTy, Num, Primitive, Ty,
 /// How many characters of a printed text are shown.
 const MOST_SHOWN: usize = 1024;
 
-/// Cuts a printed text where it is too long.
+/// Cuts a printed text if it is too long.
 pub(crate) fn cut(mut bytes: Vec<u8>) -> Result<Vec<u8>, NoMemory>
     ensures { IfOk result (λ shown. shown.items ≡ cut bytes.items) }
 {
@@ -40,8 +40,20 @@ fn push_code(bytes: &mut Vec<u8>, character: char) -> Result<(), NoMemory>
     push(bytes, number.as_bytes())
 }
 
+/// Writes a character as itself.
+#[inline(always)]
+fn push_graphic(bytes: &mut Vec<u8>, character: char) -> Result<(), NoMemory>
+    requires { character < 256 }
+    ensures { OnOk result (bytes.new.items ≡ bytes.old.items ++ character ∷ []) }
+{
+    bytes.reserve(1)?;
+    bytes.push_reserved(character as u8);
+    Ok(())
+}
+
 /// Writes a character: by its own escape, as itself, or by its number.
-fn push_char(bytes: &mut Vec<u8>, character: char) -> Result<(), NoMemory>
+#[inline(never)]
+fn push_escape(bytes: &mut Vec<u8>, character: char) -> Result<(), NoMemory>
     ensures { OnOk result (bytes.new.items ≡ bytes.old.items ++ escaped_char character) }
 {
     match character {
@@ -49,8 +61,31 @@ fn push_char(bytes: &mut Vec<u8>, character: char) -> Result<(), NoMemory>
         ',' => push(bytes, b"\\c"),
         '\n' => push(bytes, b"\\n"),
         '\\' => push(bytes, b"\\\\"),
-        '!'..='~' => push(bytes, &[character as u8]),
+        '!'..='~' => push_graphic(bytes, character),
         _ => push_code(bytes, character),
+    }
+}
+
+/// The same, where letters, digits and most marks are written in line.
+#[inline(always)]
+fn push_char(bytes: &mut Vec<u8>, character: char) -> Result<(), NoMemory>
+    ensures { OnOk result (bytes.new.items ≡ bytes.old.items ++ escaped_char character) }
+{
+    match character {
+        '!'..='+' | '-'..='[' | ']'..='~' => push_graphic(bytes, character),
+        _ => push_escape(bytes, character),
+    }
+}
+
+/// The characters of a text that matter where it is shown: one more than are shown at most, since
+/// each is written as one byte or more.
+pub(crate) fn front(text: &[char]) -> &[char]
+    ensures { result.now ≡ take 1025 text.now }
+{
+    if text.len() > MOST_SHOWN {
+        &text[..=MOST_SHOWN]
+    } else {
+        text
     }
 }
 
@@ -58,6 +93,7 @@ fn push_char(bytes: &mut Vec<u8>, character: char) -> Result<(), NoMemory>
 pub(crate) fn push_chars(bytes: &mut Vec<u8>, text: &[char]) -> Result<(), NoMemory>
     ensures { OnOk result (bytes.new.items ≡ bytes.old.items ++ escaped text.now) }
 {
+    bytes.reserve(text.len())?;
     for character in text {
         push_char(bytes, *character)?;
     }
@@ -109,7 +145,7 @@ fn push_bool(bytes: &mut Vec<u8>, truth: bool) -> Result<(), NoMemory>
     }
 }
 
-/// Writes a number without what stands before it.
+/// Writes a number without what comes before it.
 fn push_number(bytes: &mut Vec<u8>, number: Num) -> Result<(), NoMemory>
     ensures { OnOk result (bytes.new.items ≡ bytes.old.items ++ number_text number) }
 {
@@ -155,7 +191,7 @@ fn push_boxed(bytes: &mut Vec<u8>, number: Num) -> Result<(), NoMemory>
 }
 
 /// Writes a text.
-fn push_string(bytes: &mut Vec<u8>, text: &[char]) -> Result<(), NoMemory>
+pub(crate) fn push_string(bytes: &mut Vec<u8>, text: &[char]) -> Result<(), NoMemory>
     ensures { OnOk result (bytes.new.items ≡ bytes.old.items ++ string_text text.now) }
 {
     push(bytes, b"s:")?;

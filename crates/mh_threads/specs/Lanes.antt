@@ -1,4 +1,4 @@
--- Lanes before and after they were run.
+-- Lanes before and after they run.
 use Rattle.std.specs.Prelude.{◌≡◌, ℕ, ◌<◌, List, length, slice_index_or}
 
 -- there are as many lanes as before, and each was done

@@ -4,7 +4,7 @@ use std::sync::Wait;
 use std::thread;
 use std::thread::Threads;
 
-/// What is done with each lane, by a thread that shares the task with those of the other lanes.
+/// What is done with each lane. The threads of all lanes share the task.
 pub trait Task {
     /// What one thread works on.
     type Lane: Send;
@@ -20,8 +20,8 @@ pub trait Task {
         ensures { done self.entry.now lane.old lane.new };
 }
 
-/// Runs the task on each lane, each in a thread. It returns when all are done, and takes no memory of
-/// its own. A thread that cannot be had is no refusal: its lane is run by the caller.
+/// Runs the task on each lane, each in a thread. It returns when all are done, and takes no memory
+/// of its own. If a thread cannot be started, the caller runs its lane.
 pub fn run_each<T: Task + Sync, R: Threads + Wait + Sync>(rt: &R, task: &T, lanes: &mut [T::Lane])
     requires some { 0 < length lanes.old }
     requires ready { All (T.ready task.now) lanes.old }

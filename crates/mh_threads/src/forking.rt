@@ -7,8 +7,8 @@ use std::sync::Wait;
 use std::thread;
 use std::thread::Threads;
 
-/// Work that threads do beside each other: a lane is forked off for each of them, each is run by a
-/// thread, and all are joined again, in the order in which they were forked.
+/// Work that threads do concurrently. A lane is forked off for each of them, and a thread runs it.
+/// Then all lanes are joined, in the order in which they were forked off.
 pub trait ForkJoin {
     /// What one thread works on.
     type Lane: Send + Drop;
@@ -19,7 +19,7 @@ pub trait ForkJoin {
     // How many lanes there are.
     ghost count: { Self → ℕ };
 
-    // What holds of the state where these lanes were forked off.
+    // What holds of the state after these lanes were forked off.
     ghost forked: { Self → Self.State → List Self.Lane → Type 0 };
 
     // A lane that may be run, and what it is afterwards.
@@ -27,7 +27,8 @@ pub trait ForkJoin {
 
     ghost done: { Self → Self.Lane → Self.Lane → Type 0 };
 
-    // What holds of the state where the lanes after were joined, of the lanes before.
+    // What holds of the state after lanes were joined: the first list has them before they ran, the
+    // second after.
     ghost joined: { Self → List Self.Lane → List Self.Lane → Self.State → Type 0 };
 
     /// How many lanes are forked off.
@@ -58,7 +59,7 @@ pub trait ForkJoin {
             → done self.now (slice_index_or before (length after) lane) lane
             → OnOk result (joined self.now before (after ++ lane ∷ []) state.new) };
 
-    /// Where all lanes were forked off, none is joined yet. It does nothing when it runs.
+    /// Once all lanes are forked off, none is joined yet. It does nothing when it runs.
     fn start(&self, state: &Self::State)
         ensures { (lanes : List Self.Lane) → forked self.now state.now lanes
             → length lanes ≡ count self.now → joined self.now lanes [] state.now };
@@ -116,8 +117,8 @@ fn join_all<T: ForkJoin>(
     Ok(())
 }
 
-/// Forks the lanes off, runs each in a thread, and joins them. A thread that cannot be had is no
-/// refusal: its lane is run by the caller. It fails only where no memory is left.
+/// Forks the lanes off, runs each in a thread, and joins them. If a thread cannot be started, the
+/// caller runs its lane. It fails only if no memory is left.
 pub fn fork_join<T: ForkJoin + Sync, R: Threads + Wait + Sync>(
     rt: &R,
     alloc: Global,

@@ -1,4 +1,4 @@
-//! Work that many threads do beside each other, each on a lane of its own.
+//! Work that many threads do concurrently, each on a lane of its own.
 #![tactic(auto)]
 
 mod each;

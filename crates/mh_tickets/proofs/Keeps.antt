@@ -8,7 +8,7 @@ use Rattle.atomic_table.specs.Table.{State, Me, Allows, Splits, Joins, keeps}
 use Rattle.atomic_table.proofs.Lists.{set_again}
 use Rattle.mh_seats.specs.Room.{limit, times}
 use Rattle.mh_tickets.specs.declared.drawn.Drawn.{Drawn}
-use Rattle.mh_tickets.specs.Draws.{EachOnce, drawn, count_of, held_by, Kept, Drew, Looked, without, joined}
+use Rattle.mh_tickets.specs.Draws.{EachOnce, drawn, count_of, held_by, Kept, Drew, Looked, without, joined_views}
 use Rattle.mh_seats.proofs.Totals.{total_set, at_most, alone}
 use Rattle.mh_tickets.proofs.Counting.{all_below, at_most_once, one_more, times_more}
 use Rattle.mh_tickets.proofs.Whole.{has_all, has_count, fits}
@@ -116,9 +116,9 @@ cuts_allowed id room v le s k at =
     }
 
 -- a join
-pub joins_allowed : (id : ℕ) (v : Drawn) (other : ℕ) (w : Drawn) → Joins Kept id v other w (joined v w) (drawn [] 0)
+pub joins_allowed : (id : ℕ) (v : Drawn) (other : ℕ) (w : Drawn) → Joins Kept id v other w (joined_views v w) (drawn [] 0)
 joins_allowed id v other w s k at apart there =
-    let both : Drawn = joined v w in
+    let both : Drawn = joined_views v w in
     let none : Drawn = drawn [] 0 in
     record {
       one_word = k.one_word;

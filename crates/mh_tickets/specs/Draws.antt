@@ -1,11 +1,11 @@
--- A counter between any two steps, and what each kind of step tells.
+-- A counter between any two steps, and what each kind of step says.
 use Rattle.std.specs.Prelude.{◌≡◌, ℕ, ◌+◌, ◌-◌, ◌<◌, ◌≤◌, ◌&&◌, List, [], ◌∷◌, ◌++◌, length, cond, sum_by, slice_index, All}
 use lib.Dec.{leb}
 use Rattle.atomic_table.specs.Table.{State, Me, Step}
 use Rattle.mh_seats.specs.Room.{limit, times}
 use Rattle.mh_tickets.specs.declared.drawn.Drawn.{Drawn}
 
--- 1 for the numbers from 1 to n, and else 0
+-- 1 for the numbers from 1 to n, and otherwise 0
 abbrev pub once_up_to : ℕ → ℕ → ℕ
 once_up_to n x = cond (leb 1 x && leb x n) 1 0
 
@@ -13,7 +13,7 @@ once_up_to n x = cond (leb 1 x && leb x n) 1 0
 abbrev pub EachOnce : List ℕ → Type 0
 EachOnce numbers = (x : ℕ) → times x numbers ≡ once_up_to (length numbers) x
 
--- no number stands there twice
+-- no number is in the list twice
 abbrev pub AreDistinct : List ℕ → Type 0
 AreDistinct numbers = (x : ℕ) → times x numbers ≤ 1
 
@@ -29,8 +29,8 @@ count_of v = length v.numbers
 abbrev pub held_by : Drawn → ℕ
 held_by v = v.room + length v.numbers
 
--- the rule: the word is the number drawn last; each number up to it stands in one view, once, and no other number stands in any; rooms and counts of all
--- views are the limit together
+-- The rule. The word is the number that was drawn last. Each number up to it is in one view, once, and no other number is in any. The rooms and counts of all
+-- views together are the limit.
 pub record Kept (s : State (Unit {0}) Drawn) : Type 0 where
   pub one_word : length s.words ≡ 1
   pub each_once : (x : ℕ) → sum_by (λ v. times x v.numbers) s.views ≡ once_up_to (slice_index s.words 0) x
@@ -59,10 +59,10 @@ draws _ m last m' = Drew m.0 last m'.0 × (m'.1 ≡ m.1)
 abbrev pub looks : Step (Unit {0}) → Me (Unit {0}) Drawn → ℕ → Me (Unit {0}) Drawn → Type 0
 looks _ m _ m' = Looked m.0 m'.0 × (m'.1 ≡ m.1)
 
--- the view after a split, which has so much less room
+-- the view after a split, which has this much less room
 abbrev pub without : ℕ → Drawn → Drawn
 without room v = drawn v.numbers (v.room - room)
 
 -- one view with all that two had
-abbrev pub joined : Drawn → Drawn → Drawn
-joined v w = drawn (v.numbers ++ w.numbers) (v.room + w.room)
+abbrev pub joined_views : Drawn → Drawn → Drawn
+joined_views v w = drawn (v.numbers ++ w.numbers) (v.room + w.room)

@@ -24,7 +24,7 @@ seat_coded = code_by (TableId × (List ℕ × ℕ)) (coded× table_id_coded (cod
 abbrev pub new_seat : TicketsId → ℕ → SeatView
 new_seat tickets room = record { tickets = tickets; numbers = []; room = room }
 
--- the seat with so much less room
+-- the seat with this much less room
 abbrev pub with_less_room : ℕ → SeatView → SeatView
 with_less_room room s = record { tickets = s.tickets; numbers = s.numbers; room = s.room - room }
 
@@ -32,7 +32,7 @@ with_less_room room s = record { tickets = s.tickets; numbers = s.numbers; room 
 abbrev pub joined_seats : SeatView → SeatView → SeatView
 joined_seats s other = record { tickets = s.tickets; numbers = s.numbers ++ other.numbers; room = s.room + other.room }
 
--- this number was drawn: it is greater than all that the seat had, and where the seat had all others, it is the next one
+-- This number was drawn. It is greater than all that the seat had. If the seat had all others' numbers and room, it is the next one.
 pub record Draws (number : ℕ) (old new : SeatView) : Type 0 where
   pub tickets : new.tickets ≡ old.tickets
   pub numbers : new.numbers ≡ old.numbers ++ number ∷ []
@@ -40,6 +40,6 @@ pub record Draws (number : ℕ) (old new : SeatView) : Type 0 where
   pub greater : All (λ n. n < number) old.numbers
   pub next : old.room + length old.numbers ≡ limit → number ≡ length old.numbers + 1
 
--- where all other seats were joined, the seat's numbers are 1 to their count, each once
+-- if all other seats were joined to it, the seat's numbers are 1 to their count, each once
 abbrev pub KnowsAll : SeatView → Type 0
 KnowsAll s = s.room + length s.numbers ≡ limit → EachOnce s.numbers

@@ -1,4 +1,4 @@
--- Seats of a counter, and what a step leaves of them.
+-- Seats of a counter, and how a step changes them.
 use Rattle.std.specs.Prelude.{◌≡◌}
 use Rattle.atomic_table.specs.Seated.{TableId}
 

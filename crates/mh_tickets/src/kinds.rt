@@ -1,7 +1,7 @@
 // The counter: its rule, and the kinds of step that keep it.
 ghost use Rattle.std.specs.Prelude.{ℕ, []};
 ghost use Rattle.mh_seats.specs.Room.{limit};
-ghost use Rattle.mh_tickets.specs.Draws.{Kept, drawn, draws, looks, joined, without};
+ghost use Rattle.mh_tickets.specs.Draws.{Kept, drawn, draws, looks, joined_views, without};
 
 use crate::drawn::Drawn;
 use atomic_table::{Join, Play, Seat, Shared, Split, Table, TableRule};
@@ -33,7 +33,7 @@ impl Play<(), Drawn> for Drawing {
     ghost then = { draws };
 }
 
-/// A read that changes nothing, and tells what the rule says of the seat.
+/// A read that changes nothing, and shows what the rule says of the seat.
 pub(crate) struct Looking;
 
 impl Play<(), Drawn> for Looking {
@@ -44,7 +44,7 @@ impl Play<(), Drawn> for Looking {
 pub(crate) struct Joining;
 
 impl Join<Drawn> for Joining {
-    ghost both = { joined };
+    ghost both = { joined_views };
 
     ghost spent = { drawn [] 0 };
 }

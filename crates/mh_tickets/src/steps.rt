@@ -2,14 +2,14 @@
 ghost use Rattle.std.specs.Prelude.{◌≡◌, ◌<◌, ◌≤◌, [], length, IfOk};
 ghost use Rattle.mh_seats.specs.Room.{limit};
 ghost use Rattle.mh_seats.specs.Steps.{Begins, Moves};
-ghost use Rattle.mh_tickets.specs.Draws.{AreDistinct, Drew, EachOnce, drawn, held_by, without, joined};
+ghost use Rattle.mh_tickets.specs.Draws.{AreDistinct, Drew, EachOnce, drawn, held_by, without, joined_views};
 ghost use Rattle.mh_tickets.specs.Steps.{IsCounter, IsOfCounter};
 
 use crate::kinds::{Counter, Drawing, Joining, Looking, Part, Place, Splitting, Steps};
 use std::alloc::{AllocError, Global};
 use std::marker::Brand;
 
-/// A counter of which nothing was drawn, and its first seat.
+/// A counter before the first draw, and its first seat.
 pub(crate) fn new_counter(alloc: Global) -> Result<(Counter, Place), AllocError>
     ensures counter { IfOk result (λ t. IsCounter t.0.shared.table_id) }
     ensures seat { IfOk result (λ t. Begins (drawn [] limit) t.0.shared.table_id t.1) }
@@ -59,7 +59,7 @@ fn cut_room<P: Part>(steps: &Steps, seat: &mut Place, room: u64) -> Place
     cut::<P>(steps, seat)
 }
 
-/// A new seat with so much of a seat's room.
+/// A new seat with this much of a seat's room.
 pub(crate) fn split(steps: &Steps, seat: &mut Place, room: u64) -> Place
     requires seat { IsOfCounter seat.old.table_id steps.now.table_id }
     requires room { room ≤ seat.old.me.0.room }
@@ -73,12 +73,12 @@ pub(crate) fn split(steps: &Steps, seat: &mut Place, room: u64) -> Place
 pub(crate) fn join(steps: &Steps, seat: &mut Place, other: Place)
     requires seat { IsOfCounter seat.old.table_id steps.now.table_id }
     requires other { (other.table_id ≡ steps.now.table_id) × (other.me.1 ≡ []) }
-    ensures { Moves (λ v. joined v other.me.0) seat.old seat.new }
+    ensures { Moves (λ v. joined_views v other.me.0) seat.old seat.new }
 {
     steps.join_seat::<Joining>(seat, other);
 }
 
-/// The number that was drawn last, told by the seat that has all of them.
+/// The number that was drawn last, from the seat that has all of them.
 pub(crate) fn last(counter: Counter, seat: Place) -> u64
     requires seat { (seat.table_id ≡ counter.shared.table_id) × (seat.me.1 ≡ []) }
     requires counter { IsCounter counter.shared.table_id }

@@ -34,8 +34,8 @@ impl Model for Tickets {
 }
 
 impl Tickets {
-    /// A counter of which nothing was drawn, and the first seat, which has all the room: 2^62. It
-    /// fails only where no memory is left.
+    /// A counter before the first draw, and the first seat, which has all the room: 2^62. It fails
+    /// only if no memory is left.
     pub fn new(alloc: Global) -> Result<(Tickets, TicketSeat), NoMemory>
         ensures { IfOk result (λ t. t.1 ≡ new_seat t.0 limit) }
     {
@@ -82,7 +82,7 @@ impl Tickets {
     }
 
     /// How many numbers were drawn: 1 to that number, each once. The seat's room and its numbers
-    /// are 2^62 together exactly where all other seats were joined.
+    /// together are 2^62 if and only if all other seats were joined to it.
     pub fn close(self, seat: TicketSeat) -> u64
         requires seat { seat.tickets ≡ self }
         requires whole { seat.room + length seat.numbers ≡ limit }

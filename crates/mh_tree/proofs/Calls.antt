@@ -12,12 +12,7 @@ use Rattle.mh_tree.specs.Tree.{Tree}
 use Rattle.mh_tree.specs.Tree as tree
 use Rattle.mh_tree.specs.Typing.{arity}
 use Rattle.mh_tree.specs.Meaning.{mean, part_of, decided}
-
--- the leaf calls that were made
-abbrev pub calls_made : {A : Type 0} → Ran A → List LeafCall
-calls_made (Gave a calls) = calls
-calls_made (Threw e calls) = calls
-calls_made Stuck = []
+use Rattle.mh_tree.specs.MostCalls.{calls_made}
 
 -- what runs after a part that gave a result
 abbrev pub next_run : {A B : Type 0} → Ran A → ℕ → (A → ℕ → Ran B) → Ran B

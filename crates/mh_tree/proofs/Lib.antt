@@ -1,4 +1,7 @@
+pub mod CallBounds
+pub mod CallRuns
 pub mod Calls
+pub mod CallWeights
 pub mod Concatenated
 pub mod Converted
 pub mod Host
@@ -27,9 +30,11 @@ pub mod SoundSpread
 pub mod Soundness
 pub mod Trivial
 pub mod TypedLists
+pub mod TypedWeights
 pub mod Uses
 mod WorkedAdapters
 mod WorkedBranches
+mod WorkedCalls
 mod WorkedConcatenations
 mod WorkedConversions
 mod WorkedEndings

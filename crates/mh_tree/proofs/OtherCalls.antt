@@ -16,8 +16,9 @@ use Rattle.mh_tree.specs.Tree.{Tree, converted}
 use Rattle.mh_tree.specs.Tree as tree
 use Rattle.mh_tree.specs.Typing.{type_of, arity}
 use Rattle.mh_tree.specs.Meaning.{Done, mean, known, or_throw, conv_all, conv_result}
+use Rattle.mh_tree.specs.MostCalls.{calls_made}
 use Rattle.mh_tree.proofs.Converted.{mean-converted}
-use Rattle.mh_tree.proofs.Calls.{calls_made, next_run, Ends, calls-in-order}
+use Rattle.mh_tree.proofs.Calls.{next_run, Ends, calls-in-order}
 
 no-calls : (r : Result (Option Value) Exc) → calls_made (or_throw r (λ v. Gave v [])) ≡ []
 no-calls (Ok v) = refl

@@ -3,6 +3,7 @@ pub mod Check
 pub mod Joints
 pub mod Limited
 pub mod Meaning
+pub mod MostCalls
 pub mod Rows
 pub mod Sound
 pub mod Tree

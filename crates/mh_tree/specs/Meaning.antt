@@ -93,7 +93,7 @@ abbrev pub switched : Value → (ℕ → Done) → Done → Done
 switched (value.Prim (num.I z)) pick other = picked_by z pick other
 switched v pick other = Stuck
 
--- goes on with the turns of a loop, if the iterations gave an int that is no more than there may be
+-- goes on with the turns of a loop, if the iterations gave an int that is at most the greatest number of turns
 abbrev pub bounded_by : Option Value → (ℕ → Done) → Done
 bounded_by (Some (value.Prim (num.I z))) next = bounded z next
 bounded_by r next = Stuck
@@ -103,6 +103,7 @@ abbrev pub further_count : TypeOrRefusal → ℕ
 further_count (Ok ty) = length (further ty)
 further_count (Err e) = 0
 
+-- what trees, and cases of switches, do
 abbrev mutual
   -- What a tree does with these arguments, after `n` earlier leaf calls. The number matters because a leaf of kind `tick` returns it.
   pub mean : LeafTable → Tree → List Value → ℕ → Done

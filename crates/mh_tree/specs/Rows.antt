@@ -179,7 +179,7 @@ can_all by classes [] [] = true
 can_all by classes (s ∷ ss) (t ∷ ts) = can by classes s t && can_all by classes ss ts
 can_all by classes _ _ = false
 
--- a method type can be converted by the rules to another: each argument that is asked for to a parameter, and the result to the one asked for
+-- a method type can be converted by the rules to another: each new parameter to the old one at its place, and the old result to the new one
 abbrev pub can_be_used_as : Rules → List Class → MethodTy → MethodTy → Bool
 can_be_used_as by classes own asked = can_all by classes asked.params own.params && is_some (ret_conversion_of by classes own.ret asked.ret)
 

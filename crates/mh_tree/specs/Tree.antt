@@ -39,8 +39,9 @@ mutual
     no_cases : Cases
     one_case : (first : Tree) (others : Cases) → Cases
 
+-- the weight of trees, and of cases of switches
 abbrev mutual
-  -- One more than the weights of the parts. A loop weighs so much more that no loop stands in another.
+  -- One more than the weights of the parts. A loop weighs so much that no loop can be a part of another.
   pub weight : Tree → ℕ
   weight (Bind target place value) = 1 + weight target
   weight (Drop target place types) = 1 + weight target

@@ -27,6 +27,7 @@ and_types (Ok ty) (Ok tys) = Ok (ty ∷ tys)
 and_types (Ok ty) (Err e) = Err e
 and_types (Err e) others = Err e
 
+-- the types of trees, and of cases of switches
 abbrev mutual
   -- the type of a tree over the leaves of a table
   pub type_of : LeafTable → Tree → TypeOrRefusal
@@ -83,9 +84,11 @@ abbrev pub held_before : TypeOrRefusal → List MethodTy → List MethodTy
 held_before (Ok ty) others = ty ∷ others
 held_before (Err e) others = others
 
+-- the types of side parts of trees, and of cases of switches
 abbrev mutual
-  -- The types that a tree holds beside its own. A *side part* is a part that keeps a form of its own: a filter, combiner, test, branch, case, handler,
-  -- cleanup, part of a loop, or target of a catch or of a cleanup. The list has the type of each side part, and those of that part's side parts after it.
+  -- The types that a tree holds in addition to its own. A *side part* is a part that keeps a form of its own. It is a filter, combiner, test, branch, case,
+  -- handler, cleanup, part of a loop, or target of a catch or of a cleanup. The list has the type of each side part, and those of that part's side parts after
+  -- it.
   pub sides : LeafTable → Tree → List MethodTy
   sides table (tree.Bind target place value) = sides table target
   sides table (tree.Drop target place types) = sides table target

@@ -27,8 +27,8 @@ fn can_all(rules: Rules, from: &[Ty], to: &[Ty], classes: &Classes) -> bool
     true
 }
 
-/// Whether a method type can be converted by the rules to another: each argument that is asked for
-/// to a parameter, and the result to the one that is asked for.
+/// Whether the rules can convert a method type to another. Each new parameter must convert to the
+/// old one at its place, and the old result to the new one.
 fn can_be_used_as(rules: Rules, own: &MethodTy, asked: &MethodTy, classes: &Classes) -> bool
     ensures { result ≡ can_be_used_as rules classes.now own.now asked.now }
 {

@@ -153,11 +153,11 @@ fn listed(alloc: Global, types: &[Ty]) -> Result<Tys, NoMemory>
     Ok(Seq::from_vec(Vec::from_slice(alloc, types)?))
 }
 
-/// The type of a body that runs as often as the iterations say, each time with the result of the
-/// turn before, the first time with that of the start (`MethodHandles.countedLoop`, SE 17). Refused
-/// if the iterations give no int, or if the body does not take its own result and the number of the
-/// turn first. Refused also if the start does not give that result, or if iterations or start do
-/// not take the first parameters of the loop.
+/// The type of a body that runs as often as the iterations say. Each turn gets the result of the
+/// turn before, and the first one gets that of the start (`MethodHandles.countedLoop`, SE 17).
+/// Refused if the iterations give no int, or if the body does not take its own result and the
+/// number of the turn first. Refused also if the start does not give that result, or if iterations
+/// or start do not take the first parameters of the loop.
 pub fn check_counted(
     alloc: Global,
     iterations: &MethodTy,

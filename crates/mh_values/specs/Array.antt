@@ -32,7 +32,7 @@ item_of_value (value.Thrown e) = Some (cell.Thrown e)
 item_of_value (value.Array c items) = None
 item_of_value value.Null = Some cell.Null
 
--- an item before items, where all are there
+-- an item before items, if all are there
 abbrev pub item_and_more : Option Cell → Option (List Cell) → Option (List Cell)
 item_and_more (Some item) (Some items) = Some (item ∷ items)
 item_and_more _ _ = None
@@ -56,7 +56,7 @@ abbrev pub values_of_array : Value → List Value
 values_of_array (value.Array c items) = map value_of_item items
 values_of_array v = []
 
--- the items of an array from which so many are wanted; null has none, and any other number of items throws
+-- the items of an array that must have this many; null has none, and any other number of items throws
 abbrev pub spread_values : ℕ → Value → Ran (List Value)
 spread_values n value.Null = if n == 0 then Gave [] [] else Threw (bare null_pointer_class) []
 spread_values n (value.Array c items) =

@@ -12,21 +12,21 @@ class_at n = record { 0 = n }
 abbrev pub superclass_of : List Class → ClassId → Option ClassId
 superclass_of classes c = option_map_or (λ class. class.superclass) (slice_get classes c.0) None
 
--- b is a, or is reached from a by superclasses
+-- b is a, or superclasses lead from a to b
 pub data IsSubclass (classes : List Class) : ClassId → ClassId → Type 0 where
   itself : {a : ClassId} → IsSubclass classes a a
   above : {a b c : ClassId} → superclass_of classes a ≡ Some b → IsSubclass classes b c → IsSubclass classes a c
 
--- the same as a test that looks so many classes up
+-- the same as a test that looks this many classes up
 abbrev pub reaches_within : ℕ → List Class → ClassId → ClassId → Bool
 reaches_within zero classes a b = a.0 == b.0
 reaches_within (suc steps) classes a b = a.0 == b.0 || option_map_or (λ c. reaches_within steps classes c b) (superclass_of classes a) false
 
--- whether a class is another one or below it; the list has no longer way up than its length
+-- whether a class is another one or below it; no way up is longer than the list
 abbrev pub is_subclass : List Class → ClassId → ClassId → Bool
 is_subclass classes a b = reaches_within (length classes) classes a b
 
--- `java/lang/Object`, which is built in with the number 0, and likewise the others below
+-- `java/lang/Object`, which is built in with the number 0, and so on for those below
 abbrev pub object_class : ClassId
 object_class = class_at 0
 

@@ -12,7 +12,7 @@ use Rattle.mh_values.specs.Classes.{class_named, AreOrdered}
 abbrev pub class_number : BTreeMap (Vec ℕ) ClassId → List ℕ → Option ClassId
 class_number numbers name = get_by (λ k. slice_cmp nat_cmp name k.items) numbers
 
--- a superclass, where there is one, has a number below this one
+-- a superclass, if there is one, has a number below this one
 abbrev pub IsWithin : ℕ → Option ClassId → Type 0
 IsWithin n superclass = (b : ClassId) → superclass ≡ Some b → b.0 < n
 

@@ -27,11 +27,11 @@ class_of name superclass = record { name = name; superclass = superclass }
 abbrev pub IsAscending : List Class → Type 0
 IsAscending classes = (a b : ClassId) → superclass_of classes a ≡ Some b → b.0 < a.0
 
--- no two classes have one name: each class is the one of its name
+-- no two classes have the same name: each class is the one that its name finds
 abbrev pub IsDistinct : List Class → Type 0
 IsDistinct classes = (c : ClassId) → c.0 < length classes → class_named classes (name_of classes c) ≡ Some c
 
--- classes in order: each after its superclass, no two of one name
+-- classes in order: each after its superclass, and no two with the same name
 pub record AreOrdered (classes : List Class) : Type 0 where
   pub ascending : IsAscending classes
   pub distinct : IsDistinct classes

@@ -6,7 +6,7 @@ use Rattle.mh_values.specs.declared.value.Exc.{Exc}
 use Rattle.mh_values.specs.declared.calls.LeafCall.{LeafCall}
 use Rattle.mh_values.specs.Class.{is_subclass}
 
--- it gave a result, it threw an exception, or it is stuck: it met what nothing is said of, as a place that is not there
+-- It gave a result, it threw an exception, or it is stuck. It is stuck if it lacks something that it needs, such as a place that does not exist.
 pub data Ran (A : Type 0) : Type 0 where
   Gave : A → List LeafCall → Ran A
   Threw : Exc → List LeafCall → Ran A
@@ -21,7 +21,7 @@ abbrev pub raised : ℕ → List LeafCall → ℕ
 raised n [] = n
 raised n (call ∷ calls) = raised (next_count n) calls
 
--- these calls stand before those of what runs later
+-- these leaf calls come before those of what runs later
 abbrev pub after : {A : Type 0} → List LeafCall → Ran A → Ran A
 after calls (Gave a more) = Gave a (calls ++ more)
 after calls (Threw e more) = Threw e (calls ++ more)
@@ -54,12 +54,12 @@ guarded Stuck test n handler = Stuck
 abbrev pub is_caught : List Class → ClassId → Exc → Bool
 is_caught classes class e = is_subclass classes e.class class
 
--- the second does what the first does, where the first is not stuck
+-- the second does what the first does, unless the first is stuck
 abbrev pub Refines : {B : Type 0} → Ran B → Ran B → Type 0
 Refines (Gave b calls) y = Gave b calls ≡ y
 Refines (Threw e calls) y = Threw e calls ≡ y
 Refines Stuck y = Unit {0}
 
--- a list with these in place of as many of its items as are taken, from a place on
+-- a list with these items in place of a number of its own, from a place on
 abbrev pub spliced : {A : Type 0} → ℕ → ℕ → List A → List A → List A
 spliced place taken given xs = take place xs ++ (given ++ drop (place + taken) xs)

@@ -88,7 +88,7 @@ method_meant classes text = method_of classes (length text) (pieces false (drop 
 
 -- ---- what texts mean
 
--- a text that has a fault of its own means nothing; else what it means among the classes decides
+-- a text with a fault of its own means nothing; otherwise what it means among the classes decides
 abbrev pub unless_bad : {A : Type 0} → Option ℕ → Result A DescriptorError → Result A DescriptorError
 unless_bad None meant = meant
 unless_bad (Some at) meant = Err (descriptor.Bad at)

@@ -17,7 +17,7 @@ bare class = saying class []
 abbrev pub with_message : List ℕ → ExcParts → ExcParts
 with_message message e = record { class = e.class; message = message; cause = e.cause }
 
--- what the exception says of which this is kept
+-- what an exception says if this is kept of it
 abbrev pub kept_exc : ExcKept → ExcParts
 kept_exc (Bare class) = bare class
 kept_exc (Said parts) = parts

@@ -40,11 +40,11 @@ within_name p has_bytes b =
 abbrev pub slots_from : ℕ → ℕ
 slots_from b = if b == capital_J || b == capital_D then 2 else 1
 
--- a parameter begins, where the slots are at most 255 with it
+-- a parameter begins, if the slots are at most 255 with it
 abbrev pub parameter : ℕ → ℕ → Option Standing
 parameter slots b = if nat_le (slots + slots_from b) 255 then begun (place.Parameter (slots + slots_from b)) b else None
 
--- after one more byte, where the text may go on with it
+-- after one more byte, if the text may go on with it
 abbrev pub next : Standing → ℕ → Option Standing
 next standing.Front b = if b == left_parenthesis then Some (standing.Parameters 0) else None
 next (standing.Parameters slots) b = if b == right_parenthesis then Some standing.Close else parameter slots b
@@ -61,7 +61,7 @@ is_end standing.End = true
 is_end (standing.Types some) = some
 is_end _ = false
 
--- the first place, counted from a number, at which a text does not go on to a whole one from where it stands
+-- the first place, counted from a number, with a byte that no whole text has there; or the end of a text that ends early
 abbrev pub first_bad : ℕ → Standing → List ℕ → Option ℕ
 first_bad at s [] = if is_end s then None else Some at
 first_bad at s (b ∷ bs) = option_map_or (λ n. first_bad (at + 1) n bs) (next s b) (Some at)

@@ -1,4 +1,4 @@
--- Which values have a type, and which types are below one.
+-- Which values have a type, and which types are below a type.
 use Rattle.std.specs.Prelude.{◌==◌, Bool, true, false, ◌&&◌, List, [], ◌∷◌, IsTrue}
 use Rattle.std.specs.List.{list_all}
 use Rattle.mh_values.specs.declared.class.Class.{Class}

@@ -29,7 +29,7 @@ primitive_named b =
     else (if b == capital_I then Some primitive.I
     else (if b == capital_J then Some primitive.J else None)))))
 
--- whether two primitive types are one: they have one letter
+-- whether two primitive types are equal: they have the same letter
 abbrev pub is_same_primitive : Primitive → Primitive → Bool
 is_same_primitive p q = letter_of p == letter_of q
 
@@ -63,12 +63,12 @@ whole (num.S n) = n
 whole (num.I n) = n
 whole (num.J n) = n
 
--- whether a whole number has so many bits and a sign
+-- whether a whole number has this many bits and a sign
 abbrev pub is_signed : ℕ → ℤ → Bool
 is_signed bits (pos n) = nat_lt n (2 ^ bits)
 is_signed bits (negsuc n) = nat_lt n (2 ^ bits)
 
--- whether a whole number has so many bits and no sign
+-- whether a whole number has this many bits and no sign
 abbrev pub is_unsigned : ℕ → ℤ → Bool
 is_unsigned bits (pos n) = nat_lt n (2 ^ bits)
 is_unsigned bits (negsuc n) = false

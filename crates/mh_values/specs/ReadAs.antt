@@ -1,4 +1,4 @@
--- What is said of a text of types that was read among classes, by the grammar alone: it is the text of the types, or what has none stands at the place.
+-- What is said, by the grammar alone, of a text of types that was read among classes: it is the text of the types, or a type that `mh` lacks is at the place.
 use Rattle.std.specs.Prelude.{◌≡◌, ℕ, ◌+◌, ◌≤◌, ◌==◌, nat_lt, Bool, false, ◌||◌, List, [], ◌++◌, codes, length, flat_map, None, Result, Ok, Err, IsTrue}
 use Rattle.mh_base.specs.Ascii.{capital_D, capital_F}
 use Rattle.mh_values.specs.declared.class.Class.{Class}
@@ -17,7 +17,7 @@ abbrev pub is_left_out_element : Element → Bool
 is_left_out_element (letter b) = b == capital_D || b == capital_F
 is_left_out_element (named name) = false
 
--- a type that is left out: such a primitive type, an array of one, or an array of more than one dimension
+-- a type that `mh` lacks: such a primitive type, an array of one, or an array of more than one dimension
 abbrev pub is_left_out : Spelled → Bool
 is_left_out t = nat_lt 1 t.dimensions || is_left_out_element t.element
 
@@ -30,14 +30,14 @@ pub record HasUnknownName (classes : List Class) (from : ℕ) (type : Spelled) (
   pub place : at ≡ from + type.dimensions + 1
   pub long : len ≡ length name
 
--- why a type that begins at a place is none: it is left out, or no class has its name
+-- why a type that begins at a place cannot be read: `mh` lacks it, or no class has its name
 abbrev pub IsNoType : List Class → ℕ → Spelled → DescriptorError → Type 0
 IsNoType classes from type descriptor.NoMemory = ⊥
 IsNoType classes from type (descriptor.Bad at) = ⊥
 IsNoType classes from type (descriptor.NoClass at len) = HasUnknownName classes from type at len
 IsNoType classes from type (descriptor.Unsupported at) = (at ≡ from) × IsTrue (is_left_out type)
 
--- the first type of a text that is none: what stands before it is of types that there are
+-- the first type of a text that cannot be read: all types before it can
 pub record IsFirstNoType (classes : List Class) (IsBefore : List ℕ → Type 0) (text : List ℕ) (error : DescriptorError) : Type 0 where
   pub front : List ℕ
   pub type : Spelled
@@ -48,8 +48,8 @@ pub record IsFirstNoType (classes : List Class) (IsBefore : List ℕ → Type 0)
 
 -- ---- what is said of an answer
 
--- of a text of a language, where some texts may stand before a type: a text that was read is that of what it was read as;
--- the first bad place is that of the language; and a text of the language is refused at its first type that is none
+-- This holds of a text of a language, given which texts may stand before a type. A text that was read is that of what it was read as. The first bad place is
+-- that of the language. A text of the language is refused at its first unsupported or unknown type.
 abbrev pub IsReadBy : {A : Type 0} → (List ℕ → Type 0) → (List ℕ → Type 0) → (A → List ℕ) → List Class → List ℕ → Result A DescriptorError → Type 0
 IsReadBy Is IsBefore text_of classes text (Ok a) = Is text × (text ≡ text_of a)
 IsReadBy Is IsBefore text_of classes text (Err descriptor.NoMemory) = Unit {0}

@@ -7,7 +7,7 @@ use Rattle.mh_values.specs.Class.{is_subclass, throwable_class}
 use Rattle.mh_values.specs.Computation.{Ran, Gave, Threw}
 use Rattle.mh_values.specs.HasType.{has_type}
 
--- it returns a value of the type, or nothing where that is void, or throws an exception of a class at or below Throwable; it is never stuck
+-- it returns a value of the type, or nothing if that is void, or throws an exception of a class at or below Throwable; it is never stuck
 abbrev pub Returns : List Class → Ran (Option Value) → Option Ty → Type 0
 Returns classes (Gave (Some v) calls) (Some t) = IsTrue (has_type classes v t)
 Returns classes (Gave None calls) None = Unit {0}

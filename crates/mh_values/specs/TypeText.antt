@@ -1,4 +1,4 @@
--- Types as descriptors (JVMS SE 17, 4.3.2 and 4.3.3), also where the names of classes are written in another way.
+-- Types as descriptors (JVMS SE 17, 4.3.2 and 4.3.3), also if the names of classes are written in another way.
 use Rattle.std.specs.Prelude.{ℕ, List, [], ◌∷◌, ◌++◌, codes, flat_map, Option, Some, None}
 use Rattle.mh_values.specs.declared.class.Class.{Class}
 use Rattle.mh_values.specs.declared.class.ClassId.{ClassId}

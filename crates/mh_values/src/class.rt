@@ -4,8 +4,8 @@ use mh_base::Seq;
 #[derive(Clone, Copy, Debug, PartialEq, Eq)]
 pub struct ClassId(pub u32);
 
-/// A class: its name in internal form, as `java/lang/Object`, and its superclass, which
-/// `java/lang/Object` alone lacks.
+/// A class: its name in internal form, as `java/lang/Object`, and its superclass; only
+/// `java/lang/Object` has none.
 #[derive(Debug, Drop)]
 pub struct Class {
     pub name: Seq<u8>,

@@ -18,9 +18,9 @@ pub const MOST_CLASSES: usize = 28 + 1024;
 #[derive(Clone, Copy, Debug, PartialEq, Eq)]
 pub enum DeclareError {
     NoMemory,
-    /// A class of the name is there.
+    /// There is a class of this name already.
     Twice,
-    /// As many classes were declared as may be.
+    /// The most classes that there may be were declared.
     TooMany,
 }
 
@@ -74,7 +74,7 @@ impl Classes {
         })
     }
 
-    /// Declares a class below another one. Nothing is asked of its name but that it is new.
+    /// Declares a class below another one. Its name must be new, and may be any.
     pub fn declare(&mut self, name: &[u8], parent: ClassId) -> Result<ClassId, DeclareError>
         requires { parent.0 < length self.old }
         ensures ok { IfOk result (λ class. class ≡ class_at (length self.old)) }
@@ -122,7 +122,7 @@ impl Classes {
         }
     }
 
-    /// The superclass of a class, which `java/lang/Object` alone lacks.
+    /// The superclass of a class; only `java/lang/Object` has none.
     pub fn superclass(&self, class: ClassId) -> Option<ClassId>
         ensures superclass { result ≡ superclass_of self.now class }
         ensures classes { AreClasses self.now }
@@ -134,7 +134,7 @@ impl Classes {
     }
 
     /// Whether a class is another one, or below it. A number that is no class of these is below
-    /// itself alone.
+    /// itself only.
     pub fn subclass(&self, class: ClassId, above: ClassId) -> bool
         ensures reached { IsTrue result ↔ IsSubclass self.now class above }
         ensures same { result ≡ is_subclass self.now class above }

@@ -10,7 +10,7 @@ use std::alloc::Global;
 use std::error::Error;
 use std::fmt;
 
-/// The first byte of a text that continues no text of its sort, or the text's length where it ends
+/// The first byte of a text that continues no text of its sort, or the text's length if it ends
 /// early. Slots above 255 are refused at the first byte of the parameter that takes them.
 #[derive(Clone, Copy, Debug, PartialEq, Eq)]
 pub struct BadAt {
@@ -25,15 +25,15 @@ impl fmt::Display for BadAt {
 
 impl Error for BadAt {}
 
-/// Why a descriptor was not read: what stands furthest to the left in it.
+/// Why a descriptor was not read: the reason furthest to the left in it.
 #[derive(Clone, Copy, Debug, PartialEq, Eq)]
 pub enum DescriptorError {
     NoMemory,
     /// The text is no descriptor; the place is that of [`BadAt`].
     Bad { at: usize },
-    /// No class has the name that begins at the place and has so many bytes.
+    /// No class has the name that begins at the place and has this many bytes.
     NoClass { at: usize, len: usize },
-    /// The type that begins at the place is left out: `float`, `double`, or an array of one of these
+    /// `mh` lacks the type that begins at the place: `float`, `double`, or an array of one of these
     /// or of more than one dimension.
     Unsupported { at: usize },
 }
@@ -74,7 +74,7 @@ impl From<BadAt> for DescriptorError {
 /// What a type stands for in a text of types.
 #[derive(Clone, Copy)]
 enum Place {
-    /// A parameter; with it the parameters take so many slots.
+    /// A parameter; with it the parameters take this many slots.
     Parameter(u8),
     /// One of several types that are written one after the other.
     Listed,
@@ -87,7 +87,7 @@ enum Place {
 enum Standing {
     /// Nothing was read.
     Front,
-    /// After `(` and parameters that take so many slots.
+    /// After `(` and parameters that take this many slots.
     Parameters(u8),
     /// After `)`.
     Close,
@@ -95,7 +95,7 @@ enum Standing {
     Alone,
     /// Where types are written one after the other, after some of them or before all.
     Types(bool),
-    /// After so many `[` of a type.
+    /// After this many `[` of a type.
     Dimensions(Place, u8),
     /// After an `L`, with or without bytes of the name.
     Name(Place, bool),
@@ -146,7 +146,7 @@ impl Place {
         }
     }
 
-    /// After a further byte of a type that began with so many `[`.
+    /// After a further byte of a type that began with this many `[`.
     fn within_array(self, dimensions: u8, byte: u8) -> Option<Standing>
         ensures { result ≡ within_array self dimensions byte }
     {
@@ -178,7 +178,7 @@ fn parameter(slots: u8, byte: u8) -> Option<Standing>
 }
 
 impl Standing {
-    /// After one more byte, where the text may go on with it.
+    /// After one more byte, if the text may go on with it.
     fn next(self, byte: u8) -> Option<Standing>
         ensures { result ≡ next self byte }
     {
@@ -206,7 +206,7 @@ impl Standing {
     }
 }
 
-/// Whether a text goes on to a whole one from where it stands.
+/// Whether the rest of a text makes it a whole one.
 fn text_from(start: Standing, bytes: &[u8]) -> Result<(), BadAt>
     ensures ok { OnOk result (first_bad 0 start bytes.now ≡ None) }
     ensures bad { IfErr result (λ bad. first_bad 0 start bytes.now ≡ Some bad.at) }
@@ -225,8 +225,8 @@ fn text_from(start: Standing, bytes: &[u8]) -> Result<(), BadAt>
     }
 }
 
-/// Whether a text is a method descriptor, of any types that the JVMS knows: also those that have no
-/// [`crate::Ty`], and classes that no one declared (JVMS SE 17, 4.3.3).
+/// Whether a text is a method descriptor, of any types that the JVMS has: even those that have no
+/// [`crate::Ty`], and undeclared classes (JVMS SE 17, 4.3.3).
 pub fn descriptor_text(bytes: &[u8]) -> Result<(), BadAt>
     ensures accepted { OnOk result (IsMethodDescriptor bytes.now) }
     ensures refused { IfErr result (λ bad. IsFirstBad IsMethodDescriptor bytes.now bad.at) }
@@ -237,7 +237,7 @@ pub fn descriptor_text(bytes: &[u8]) -> Result<(), BadAt>
     text_from(Standing::Front, bytes)
 }
 
-/// Whether a text is one type, likewise any that the JVMS knows (JVMS SE 17, 4.3.2).
+/// Whether a text is one type, of any kind that the JVMS has (JVMS SE 17, 4.3.2).
 pub fn field_descriptor_text(bytes: &[u8]) -> Result<(), BadAt>
     ensures accepted { OnOk result (IsTypeText bytes.now) }
     ensures refused { IfErr result (λ bad. IsFirstBad IsTypeText bytes.now bad.at) }
@@ -259,7 +259,7 @@ pub fn types_text(bytes: &[u8]) -> Result<(), BadAt>
     text_from(Standing::Types(false), bytes)
 }
 
-/// Whether a type ends with a byte, which stands in a name or not.
+/// Whether a type ends with a byte, which is in a name or not.
 fn ends_type(in_name: bool, byte: u8) -> bool
     ensures { result ≡ ends_type in_name byte }
 {
@@ -350,7 +350,7 @@ fn type_of(classes: &Classes, at: usize, text: &[u8]) -> Result<Ty, DescriptorEr
     }
 }
 
-/// The types of texts that stand one after the other, from a place on.
+/// The types of texts, one after the other, from a place on.
 fn types_of(
     alloc: Global,
     classes: &Classes,
@@ -407,8 +407,8 @@ fn method_of(
     Ok(MethodTy { params, ret })
 }
 
-/// Reads a method descriptor (JVMS SE 17, 4.3.3). Where it is one, the first place from the left
-/// decides that has a class which is not there or a type that is left out.
+/// Reads a method descriptor (JVMS SE 17, 4.3.3). If it is one, the first type from the left
+/// decides that is of an undeclared class or that `mh` lacks.
 pub fn read_descriptor(
     alloc: Global,
     bytes: &[u8],

@@ -67,7 +67,7 @@ impl Primitive {
         }
     }
 
-    /// The number of the type that a whole number is, where it is in the range: true is 1, false is
+    /// The number of the type that a whole number is, if it is in the range: true is 1, false is
     /// 0.
     pub fn number(self, whole: i64) -> Option<Num>
         ensures law { (n : Num) → (result ≡ Some n) ↔ IsNumber self whole n }

@@ -61,7 +61,7 @@ impl Registry {
         self.numbers.get(name).copied()
     }
 
-    /// Puts a class after the others, and its number where its name is the key.
+    /// Puts a class after the others, and its number under its name.
     fn put(&mut self, key: Vec<u8>, class: Class) -> Result<(), NoMemory>
         requires key { key.items ≡ class.name }
         requires new { class_named self.old class.name ≡ None }

@@ -3,14 +3,14 @@ ghost use Rattle.mh_values.specs.Same.{is_same_type, is_same_return, are_same_ty
 
 use crate::{MethodTy, Ty};
 
-/// Whether two types are one.
+/// Whether two types are equal.
 pub fn is_same_type(a: Ty, b: Ty) -> bool
     ensures { result ≡ is_same_type a b }
 {
     a == b
 }
 
-/// Whether two return types are one, void among them.
+/// Whether two return types are equal; each may be void.
 pub fn is_same_return(a: Option<Ty>, b: Option<Ty>) -> bool
     ensures { result ≡ is_same_return a b }
 {
@@ -24,14 +24,14 @@ pub fn begins_with_types(types: &[Ty], front: &[Ty]) -> bool
     types.starts_with(front)
 }
 
-/// Whether two lists of types are one.
+/// Whether two lists of types are equal.
 pub fn are_same_types(a: &[Ty], b: &[Ty]) -> bool
     ensures { result ≡ are_same_types a.now b.now }
 {
     a == b
 }
 
-/// Whether two method types are one.
+/// Whether two method types are equal.
 pub fn is_same_method_type(a: &MethodTy, b: &MethodTy) -> bool
     ensures { result ≡ is_same_method_type a.now b.now }
 {

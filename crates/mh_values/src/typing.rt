@@ -35,7 +35,7 @@ pub fn all_slots(types: &[Ty]) -> u64
     all
 }
 
-/// The slots of a method type's parameters, as far as 32 bits count them.
+/// The slots of a method type's parameters, at most 2^32 - 1.
 pub fn slots(ty: &MethodTy) -> u32
     ensures { result ≡ min (slots_of_all ty.now.params) (2 ^ 32 - 1) }
 {
@@ -58,8 +58,8 @@ pub fn is_component_below(from: Comp, to: Comp, classes: &Classes) -> bool
 }
 
 /// Whether each value of the one type has the other, as `MethodHandle.asType` takes for granted of
-/// references: the types are equal, a class is below a class, an array is an `Object`, or the
-/// components of arrays are classes one of which is below the other.
+/// references: the types are equal, or a class is below a class. It is also so if an array is an
+/// `Object`, or if the components of two arrays are classes and one is below the other.
 pub fn is_type_below(from: Ty, to: Ty, classes: &Classes) -> bool
     ensures { result ≡ is_type_below classes.now from to }
 {
@@ -99,7 +99,7 @@ pub fn is_item_of(component: Comp, item: &Cell, classes: &Classes) -> bool
     }
 }
 
-/// Whether all items are such that an array of the component may have.
+/// Whether an array of the component may have each of these items.
 pub fn are_items_of(component: Comp, items: &[Cell], classes: &Classes) -> bool
     ensures { result ≡ are_items_of classes.now component items.now }
 {
@@ -154,9 +154,10 @@ fn has_component(v: &Value, component: Comp, classes: &Classes) -> bool
     }
 }
 
-/// Whether a value has a type: a number its primitive type, any other value each class at or above
-/// its own, an array also the arrays of such classes, and null each reference type. A text of more
-/// than [`MOST_CHARACTERS`] has no type, nor has an array of more than [`MOST_ITEMS`].
+/// Whether a value has a type. A number has its primitive type, and any other value each class at
+/// or above its own. An array also has the arrays of such classes, and null has each reference
+/// type. A text of more than [`MOST_CHARACTERS`] has no type, nor has an array of more than
+/// [`MOST_ITEMS`].
 pub fn has_type(v: &Value, ty: Ty, classes: &Classes) -> bool
     ensures { result ≡ has_type classes.now v.now ty }
 {

@@ -37,7 +37,7 @@ pub struct ExcParts {
     pub cause: Option<Cause>,
 }
 
-/// What is kept of an exception: its class alone, or all that it says, with several owners.
+/// What is kept of an exception: only its class, or all that it says, with several owners.
 #[derive(Debug, Drop)]
 pub(crate) enum ExcKept {
     Bare(ClassId),
@@ -74,8 +74,8 @@ pub enum Cell {
 /// The items of an array, at most [`MOST_ITEMS`].
 pub type Cells = Frozen<Cell>;
 
-/// A value that a leaf takes or gives: a number, a boxed number, a text, an object of a class with
-/// a number of its own, an exception, an array, or null.
+/// A value that a leaf takes or gives: a number, a boxed number, a text, an object, an exception,
+/// an array, or null. An object has a class and a number of its own.
 #[derive(Debug, Drop)]
 pub enum Value {
     Prim(Num),
@@ -90,7 +90,7 @@ pub enum Value {
 /// A list of values, as the arguments of a call.
 pub type Items = Seq<Value>;
 
-/// How a call ends: with a value, without one where the return type is void, or with an exception.
+/// How a call ends: with a value, without one if the return type is void, or with an exception.
 #[derive(Debug, Drop)]
 pub enum Outcome {
     Return(Option<Value>),

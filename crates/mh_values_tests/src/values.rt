@@ -86,7 +86,7 @@ fn first_wrong<'t>(classes: &Classes, rows: &[(&'t str, &'t str)]) -> Option<&'t
 fn built_in_classes_stand_below_their_superclasses(rt: HostRuntime) -> Result<(), Fail> {
     let classes = Classes::builtin(rt.alloc())?;
     assert_eq!(rt; first_wrong(&classes, &PARENTS), None);
-    assert!(rt; classes.len() == 28);
+    assert!(rt; classes.len() == 28, "{} classes", classes.len());
     Ok(())
 }
 
@@ -142,7 +142,7 @@ fn constants_name_their_classes(rt: HostRuntime) -> Result<(), Fail> {
     Ok(())
 }
 
-/// Declares so many classes with names of two bytes.
+/// Declares this many classes with names of two bytes.
 fn declare_many(classes: &mut Classes, count: u16) -> Result<(), DeclareError>
     requires { 0 < length classes.old }
     ensures { OnOk result (0 < length classes.new) }
@@ -160,7 +160,7 @@ fn at_most_1024_classes_are_declared(rt: HostRuntime) -> Result<(), Fail> {
     let more = classes.declare(b"one more", ClassId::OBJECT);
     let again = classes.declare(&[3, 255], ClassId::OBJECT);
     assert!(rt; more == Err(DeclareError::TooMany) && again == Err(DeclareError::Twice));
-    assert!(rt; classes.len() == 1052);
+    assert!(rt; classes.len() == 1052, "{} classes", classes.len());
     Ok(())
 }
 
@@ -199,7 +199,7 @@ fn descriptors_are_refused_at_their_places(rt: HostRuntime) -> Result<(), Fail> 
 
 const OBJECT: Ty = Ty::Class(ClassId::OBJECT);
 
-/// Whether a text is read as so many types, or refused so.
+/// Whether a text is read as this many types, or refused so.
 fn reads_types(
     alloc: Global,
     text: &[u8],

@@ -23,18 +23,18 @@ class_rule = record (new_rule (codes "class")) { action = Some Append }
 abbrev pub option_names : List Text
 option_names = codes "mode" ∷ codes "leaves" ∷ codes "scripts" ∷ codes "plan" ∷ codes "number" ∷ codes "prelink" ∷ []
 
--- the command line as `clap` is told of it: options and names of class files; the program's name is not among the words
+-- the command line as `clap` gets it: options and names of class files; the program's name is not among the words
 abbrev pub app : App
 app = record {
   top = record (new_shape (codes "mh")) { no_binary_name = true; rules = map option_rule option_names ++ class_rule ∷ [] };
   subs = [];
 }
 
--- what `clap` finds in the words; nothing where it refuses them or they ask for help
+-- what `clap` finds in the words; nothing if it refuses them or they ask for help
 unfoldable pub found : List Text → Option (List Row)
 found words = if is_empty (fault_of app words) then Some (matches_of app words) else None
 
--- what the words give: the value of each option, where it is there, and the names of class files in their order
+-- what the words give: the value of each option, if it is there, and the names of class files in their order
 pub record GivenOptions : Type 0 where
   pub mode : Option Text
   pub leaves : Option Text
@@ -56,11 +56,11 @@ given_by rows = record {
   classes = unwrap_or (all_of (codes "class") rows) [];
 }
 
--- a text behind a reference, where it is there
+-- a text behind a reference, if it is there
 abbrev pub text : Option (Bor (List ℕ)) → Option Text
 text = option_map (λ value. value.now)
 
--- what a value of the program says that the words give
+-- what the words give, as a value of the program has it
 abbrev pub values : Held → GivenOptions
 values given = record {
   mode = text given.mode;

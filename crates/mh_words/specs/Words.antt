@@ -14,7 +14,7 @@ pub record Named : Type 0 where
   pub scripts : Text
   pub plan : Text
   pub classes : List Text
-  -- how many workers link all call sites before the calls; none where it is 0
+  -- how many workers link all call sites before the calls; none if it is 0
   pub workers : ℕ
 
 -- a run of named inputs, the listing of the call sites of named class files, or a run of the input that is made from a number
@@ -27,18 +27,19 @@ pub data Command : Type 0 where
 abbrev pub most_class_files : ℕ
 most_class_files = 64
 
--- how many workers there may be, and how many digits their number may have
+-- how many workers there may be
 abbrev pub most_workers : ℕ
 most_workers = 16
 
+-- how many digits the number of workers may have
 abbrev pub workers_digits : ℕ
 workers_digits = 2
 
--- a number of workers, if there may be so many
+-- a number of workers, if there may be this many
 abbrev pub workers_within : ℕ → Option ℕ
 workers_within workers = if nat_le 1 workers && nat_le workers most_workers then Some workers else None
 
--- how many workers are asked for: none where nothing is said of them
+-- how many workers are asked for: none if the option is not there
 abbrev pub workers_of : Option Text → Option ℕ
 workers_of None = Some 0
 workers_of (Some text) = option_and_then workers_within (number_of workers_digits text)
@@ -53,7 +54,7 @@ run_with _ _ _ _ prelink classes = None
 abbrev pub run_of : GivenOptions → Option Command
 run_of given = run_with given.leaves given.scripts given.plan given.number given.prelink given.classes
 
--- a listing has no option beside the mode
+-- a listing has no option except the mode
 abbrev pub sites_with : Option Text → Option Text → Option Text → Option Text → Option Text → List Text → Option Command
 sites_with None None None None None classes = Some (sites classes)
 sites_with _ _ _ _ _ classes = None
@@ -78,16 +79,16 @@ of_mode mode given =
     else (if bytes_eq mode (codes "sites") then sites_of given
     else (if bytes_eq mode (codes "gen") then generated_of given else None))
 
--- the command that options and names of class files ask for, if there is one: a mode with just its options, and not too many class files
+-- the command that options and names of class files ask for, if there is one: a mode with exactly its options, and not too many class files
 abbrev pub asked : GivenOptions → Option Command
 asked given =
     if nat_le (length given.classes) most_class_files then option_and_then (λ mode. of_mode mode given) given.mode else None
 
--- what the words ask for, or nothing where they are refused: by `clap`, or by what the program itself asks of them
+-- what the words ask for, or nothing if they are refused: by `clap`, or by the program's own conditions
 abbrev pub command_of : List Text → Option Command
 command_of words = option_and_then (λ rows. asked (given_by rows)) (found words)
 
--- at most so many class files and so many workers, or a number of at most so many digits
+-- at most as many class files, workers or digits as are allowed
 abbrev pub IsCommandWithinLimits : Command → Type 0
 IsCommandWithinLimits (run names) = (length names.classes ≤ most_class_files) × (names.workers ≤ most_workers)
 IsCommandWithinLimits (sites names) = length names ≤ most_class_files

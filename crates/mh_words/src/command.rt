@@ -6,7 +6,7 @@ pub struct Names<'a> {
     pub plan: &'a str,
     /// The class files in the order of the words, at most 64.
     pub classes: Vec<&'a str>,
-    /// How many workers link all call sites before the calls, at most 16; none where it is 0.
+    /// How many workers link all call sites before the calls, at most 16; none if it is 0.
     pub workers: u32,
 }
 

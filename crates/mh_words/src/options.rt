@@ -8,7 +8,7 @@ use clap::{Arg, ArgAction, ArgMatches, Command};
 use mh_base::NoMemory;
 use std::alloc::{AllocError, Global};
 
-/// What the words give: the value of each option, where it is there, and the names of class files.
+/// What the words give: the value of each option, if it is there, and the names of class files.
 #[derive(Drop)]
 pub(crate) struct Given<'a> {
     pub(crate) mode: Option<&'a str>,
@@ -46,7 +46,7 @@ fn option<'a>(alloc: Global, name: &'a str) -> Arg<'a>
     Arg::new(alloc, name).long(name)
 }
 
-// The names of class files, each a word that stands anywhere among the options.
+// The names of class files, each a word anywhere among the options.
 fn classes<'a>(alloc: Global) -> Arg<'a>
     ensures rule { rule_of result ≡ class_rule }
     ensures local { result.global ≡ false }
@@ -54,7 +54,7 @@ fn classes<'a>(alloc: Global) -> Arg<'a>
     Arg::new(alloc, "class").action(ArgAction::Append)
 }
 
-// The command line as clap is told of it.
+// The command line as clap gets it.
 fn command_line<'a>(alloc: Global) -> Result<Command<'a>, AllocError>
     ensures { IfOk result (λ command. app_of command ≡ app) }
 {
@@ -69,7 +69,7 @@ fn command_line<'a>(alloc: Global) -> Result<Command<'a>, AllocError>
         .arg(classes(alloc))
 }
 
-/// What clap finds in the words, or nothing where it refuses them or they ask for help.
+/// What clap finds in the words, or nothing if it refuses them or they ask for help.
 pub(crate) fn parse<'a>(
     alloc: Global,
     words: &'a [&'a str],

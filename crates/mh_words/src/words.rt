@@ -22,7 +22,7 @@ const WORKERS_DIGITS: usize = 2;
 /// How many workers there may be.
 const MOST_WORKERS: u32 = 16;
 
-// A number of workers, if there may be so many.
+// A number of workers, if there may be this many.
 fn within(workers: u32) -> Option<u32>
     ensures { result ≡ workers_within workers }
 {
@@ -33,7 +33,7 @@ fn within(workers: u32) -> Option<u32>
     }
 }
 
-// How many workers are asked for: none where nothing is said of them.
+// How many workers are asked for: none if nothing is said of them.
 fn workers(prelink: Option<&str>) -> Option<u32>
     ensures { result ≡ workers_of (text prelink.entry) }
 {
@@ -59,7 +59,7 @@ fn run_command<'a>(given: Given<'a>) -> Option<Command<'a>>
     }
 }
 
-// A listing has no option beside the mode.
+// A listing has no option except the mode.
 fn sites_command<'a>(given: Given<'a>) -> Option<Command<'a>>
     ensures { commanded result ≡ sites_of (values given.entry) }
 {
@@ -115,7 +115,7 @@ fn asked<'a>(given: Given<'a>) -> Option<Command<'a>>
     }
 }
 
-/// What the words after the program's name ask for, or nothing where they are refused.
+/// What the words after the program's name ask for, or nothing if they are refused.
 #[tactic(auto, using(crate::proofs::Limits::within))]
 pub fn read_words<'a>(alloc: Global, words: &'a [&'a str]) -> Result<Option<Command<'a>>, NoMemory>
     ensures command { IfOk result (λ command. commanded command ≡ command_of (said words.now)) }

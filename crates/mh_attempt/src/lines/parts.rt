@@ -18,8 +18,8 @@ ghost use Rattle.mh_attempt.specs.Registers.{StandsFor, StandsForSome};
 use crate::handle::HandleOperand;
 use crate::lines::combining::{check_one, check_two, of_one, of_two};
 use crate::lines::nodes::{Node, OfOne, OfTwo};
-use crate::lines::several::{both_made, switch_made, three_made};
-use crate::lines::uses::{spread_out, used};
+use crate::lines::several::{make_both, make_cases, make_three};
+use crate::lines::uses::{convert_handle, make_spread};
 use mh_base::{Copied, NoMemory, Seq};
 use mh_branch::{Branches, constant, guard_of, identity, throw};
 use mh_handle::{Handle, HandleError, Work, leaf};
@@ -34,7 +34,7 @@ use std::sync::Wait;
 const MOST_CASES: usize = 16;
 
 /// The handle of a node that an operation asks for. Refused by the rule of its combinator.
-pub(crate) fn made<'t, R: Wait>(
+pub(crate) fn make_node<'t, R: Wait>(
     w: &mut Work<'_, 't>,
     rt: &R,
     node: Node<'_, 't>,
@@ -50,18 +50,18 @@ pub(crate) fn made<'t, R: Wait>(
         Node::Constant(ty, value) => constant(w, rt, ty, value),
         Node::Identity(ty) => identity(w, rt, ty),
         Node::Throw(ret, class) => throw(w, rt, ret, class),
-        Node::One(target, by) => made_of_one(w, rt, &target, by),
-        Node::Two(target, by, part) => made_of_two(w, rt, &target, by, &part),
-        Node::Guard(test, target, fallback) => guarded(w, rt, &test, &target, &fallback),
-        Node::Counted(iterations, init, body) => looped(w, rt, &iterations, &init, &body),
-        Node::Switch(fallback, cases) => switched(w, rt, &fallback, cases.as_slice()),
-        Node::Spread(target, array, count) => spread_out(w, rt, &target, array, count),
-        Node::Use(target, rules, asked) => used(w, rt, &target, rules, asked.get()),
+        Node::One(target, by) => make_of_one(w, rt, &target, by),
+        Node::Two(target, by, part) => make_of_two(w, rt, &target, by, &part),
+        Node::Guard(test, target, fallback) => make_guard(w, rt, &test, &target, &fallback),
+        Node::Counted(iterations, init, body) => make_loop(w, rt, &iterations, &init, &body),
+        Node::Switch(fallback, cases) => make_switch(w, rt, &fallback, cases.as_slice()),
+        Node::Spread(target, array, count) => make_spread(w, rt, &target, array, count),
+        Node::Use(target, rules, asked) => convert_handle(w, rt, &target, rules, asked.get()),
     }
 }
 
 // The handle of a node with one operand.
-fn made_of_one<'t, R: Wait>(
+fn make_of_one<'t, R: Wait>(
     w: &mut Work<'_, 't>,
     rt: &R,
     target: &HandleOperand<'_, 't>,
@@ -74,12 +74,12 @@ fn made_of_one<'t, R: Wait>(
 {
     let own = target.typed(w.leaves);
     let ty = check_one(w.alloc, own, &by, w.classes())?;
-    let target = target.made(w, rt)?;
+    let target = target.make(w, rt)?;
     of_one(w, rt, target, by, ty)
 }
 
 // The handle of a node with two operands.
-fn made_of_two<'t, R: Wait>(
+fn make_of_two<'t, R: Wait>(
     w: &mut Work<'_, 't>,
     rt: &R,
     target: &HandleOperand<'_, 't>,
@@ -96,12 +96,12 @@ fn made_of_two<'t, R: Wait>(
     let own = target.typed(w.leaves);
     let other = part.typed(w.leaves);
     let ty = check_two(w.alloc, own, by, other, w.classes())?;
-    let made = both_made(w, rt, target, part)?;
+    let made = make_both(w, rt, target, part)?;
     of_two(w, rt, made, by, ty)
 }
 
 // The handle of a guard: a test, a target and a fallback.
-fn guarded<'t, R: Wait>(
+fn make_guard<'t, R: Wait>(
     w: &mut Work<'_, 't>,
     rt: &R,
     test: &HandleOperand<'_, 't>,
@@ -131,7 +131,7 @@ fn guarded<'t, R: Wait>(
         last.weight,
         w.classes(),
     )?;
-    let made = three_made(w, rt, test, target, fallback)?;
+    let made = make_three(w, rt, test, target, fallback)?;
     let branches = Branches {
         test: made.0,
         target: made.1,
@@ -141,7 +141,7 @@ fn guarded<'t, R: Wait>(
 }
 
 // The handle of a loop: what gives its end, what gives its start, and its body.
-fn looped<'t, R: Wait>(
+fn make_loop<'t, R: Wait>(
     w: &mut Work<'_, 't>,
     rt: &R,
     iterations: &HandleOperand<'_, 't>,
@@ -171,7 +171,7 @@ fn looped<'t, R: Wait>(
         last.weight,
         w.classes(),
     )?;
-    let made = three_made(w, rt, iterations, init, body)?;
+    let made = make_three(w, rt, iterations, init, body)?;
     let looped = Looped {
         iterations: made.0,
         init: made.1,
@@ -247,7 +247,7 @@ fn switch_type(
 }
 
 // The handle of a switch: a fallback and its cases.
-fn switched<'t, R: Wait>(
+fn make_switch<'t, R: Wait>(
     w: &mut Work<'_, 't>,
     rt: &R,
     fallback: &HandleOperand<'_, 't>,
@@ -261,6 +261,6 @@ fn switched<'t, R: Wait>(
         → MakesOf (fallback.now ∷ cases.now) (tree.Switch t ts) w.old w.new result }
 {
     let ty = switch_type(w, fallback, cases)?;
-    let made = switch_made(w, rt, fallback, cases, &ty)?;
+    let made = make_cases(w, rt, fallback, cases, &ty)?;
     switch_of(w, rt, made, ty)
 }

@@ -19,7 +19,7 @@ use mh_values::MethodTy;
 use std::sync::Wait;
 
 /// Handles of two operands.
-pub(crate) fn both_made<'t, R: Wait>(
+pub(crate) fn make_both<'t, R: Wait>(
     w: &mut Work<'_, 't>,
     rt: &R,
     first: &HandleOperand<'_, 't>,
@@ -38,8 +38,8 @@ pub(crate) fn both_made<'t, R: Wait>(
     ensures second { (t : Tree) → StandsFor (leaves_of w.old) second.now t
         → IfOk result (λ made. StandsIn w.old made.1 t) }
 {
-    let first = first.made(w, rt)?;
-    match second.made(w, rt) {
+    let first = first.make(w, rt)?;
+    match second.make(w, rt) {
         Ok(second) => Ok((first, second)),
         Err(error) => {
             first.give_back(w);
@@ -49,7 +49,7 @@ pub(crate) fn both_made<'t, R: Wait>(
 }
 
 /// Handles of three operands.
-pub(crate) fn three_made<'t, R: Wait>(
+pub(crate) fn make_three<'t, R: Wait>(
     w: &mut Work<'_, 't>,
     rt: &R,
     first: &HandleOperand<'_, 't>,
@@ -72,8 +72,8 @@ pub(crate) fn three_made<'t, R: Wait>(
     ensures third { (t : Tree) → StandsFor (leaves_of w.old) third.now t
         → IfOk result (λ made. StandsIn w.old made.2 t) }
 {
-    let (first, second) = both_made(w, rt, first, second)?;
-    match third.made(w, rt) {
+    let (first, second) = make_both(w, rt, first, second)?;
+    match third.make(w, rt) {
         Ok(third) => Ok((first, second, third)),
         Err(error) => {
             first.give_back(w);
@@ -85,7 +85,7 @@ pub(crate) fn three_made<'t, R: Wait>(
 
 /// Handles of operands of one type. The leaves among them have one form, so at most one number is
 /// drawn.
-fn all_made<'t, R: Wait>(
+fn make_all<'t, R: Wait>(
     w: &mut Work<'_, 't>,
     rt: &R,
     operands: &[HandleOperand<'_, 't>],
@@ -105,8 +105,8 @@ fn all_made<'t, R: Wait>(
     let Some((first, others)) = operands.split_first() else {
         return Ok(Seq::new(w.alloc));
     };
-    let first = first.made(w, rt)?;
-    match all_made(w, rt, others, ty) {
+    let first = first.make(w, rt)?;
+    match make_all(w, rt, others, ty) {
         Ok(others) => Ok(with_first(w, first, others)?),
         Err(error) => {
             first.give_back(w);
@@ -116,7 +116,7 @@ fn all_made<'t, R: Wait>(
 }
 
 /// The handles of a switch of this type.
-pub(crate) fn switch_made<'t, R: Wait>(
+pub(crate) fn make_cases<'t, R: Wait>(
     w: &mut Work<'_, 't>,
     rt: &R,
     fallback: &HandleOperand<'_, 't>,
@@ -138,8 +138,8 @@ pub(crate) fn switch_made<'t, R: Wait>(
     ensures cases { (ts : Cases) → StandForEach (leaves_of w.old) cases.now ts
         → IfOk result (λ made. StandForCases (leaves_of w.old) made.cases ts) }
 {
-    let fallback = fallback.made(w, rt)?;
-    match all_made(w, rt, cases, ty) {
+    let fallback = fallback.make(w, rt)?;
+    match make_all(w, rt, cases, ty) {
         Ok(cases) => Ok(Switched { fallback, cases }),
         Err(error) => {
             fallback.give_back(w);

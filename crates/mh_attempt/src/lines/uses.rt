@@ -24,7 +24,7 @@ use std::alloc::Global;
 use std::sync::Wait;
 
 /// A handle whose last arguments come in an array.
-pub(crate) fn spread_out<'t, R: Wait>(
+pub(crate) fn make_spread<'t, R: Wait>(
     w: &mut Work<'_, 't>,
     rt: &R,
     target: &HandleOperand<'_, 't>,
@@ -39,7 +39,7 @@ pub(crate) fn spread_out<'t, R: Wait>(
 {
     let own = target.typed(w.leaves);
     check_spread_use(w.alloc, own.ty, own.weight, array, count, w.classes())?;
-    let target = target.made(w, rt)?;
+    let target = target.make(w, rt)?;
     spread(w, rt, target, array, count)
 }
 
@@ -61,7 +61,7 @@ fn check_use(
 }
 
 /// A handle converted by the rules to a type.
-pub(crate) fn used<'t, R: Wait>(
+pub(crate) fn convert_handle<'t, R: Wait>(
     w: &mut Work<'_, 't>,
     rt: &R,
     target: &HandleOperand<'_, 't>,
@@ -76,6 +76,6 @@ pub(crate) fn used<'t, R: Wait>(
 {
     let own = target.typed(w.leaves);
     check_use(w.alloc, rules, own, asked, w.classes())?;
-    let target = target.made(w, rt)?;
+    let target = target.make(w, rt)?;
     use_by(w, rt, rules, target, asked)
 }

@@ -60,7 +60,7 @@ fn text_files(alloc: Global, row: &Text) -> Result<BTreeMap<String, Vec<u8>>, Al
     Ok(files)
 }
 
-/// The status of such a run of which a write fails, and what it wrote.
+/// The status of such a run if a write fails, and what it wrote.
 fn written<R: Threads + Wait + Sync>(
     rt: &R,
     alloc: Global,

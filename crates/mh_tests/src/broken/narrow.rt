@@ -8,7 +8,7 @@ use std::alloc::Global;
 /// The most bytes that a call takes.
 const WIDTH: usize = 7;
 
-/// A text in memory, of which each call takes a few bytes. One call fails.
+/// A text in memory to which each call adds a few bytes. One call fails.
 #[derive(Drop)]
 pub struct NarrowSink {
     pub bytes: Vec<u8>,

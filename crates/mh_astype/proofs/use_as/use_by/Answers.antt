@@ -32,7 +32,7 @@ returns-in-Err-clause-obeys g c =
     differs c.is_same_method_type.result c.ty.result.now c.args.target.ty c.args.ty.now c.if-is_same_method_type.false c.is_same_method_type.ensures
     c.ty.ensures.ty
     in
-    check-obeys c.args.w.now c.refused.new.w c.in-Err.error c.refused.result c.refused.ensures.error _
+    check-obeys c.args.w.now c.refuse.new.w c.in-Err.error c.refuse.result c.refuse.ensures.error _
     (subst (λ row. TellsRow (Err c.in-Err.error) row)
     (row-of-other c.args.rules c.args.w.now.leaves.now.classes c.args.target.ty c.args.target.weight c.args.ty.now other) c.in-Err.ensures.tells)
 
@@ -42,12 +42,12 @@ returns-in-Err-clause-makes g c t st =
     differs c.is_same_method_type.result c.ty.result.now c.args.target.ty c.args.ty.now c.if-is_same_method_type.false c.is_same_method_type.ensures
     c.ty.ensures.ty
     in
-    trees-make c.args.rules c.args.w.now.leaves.now c.args.ty.now c.args.target t st c.args.w.now c.refused.new.w c.refused.result other
-    (makes-refused c.args.target.form.recipe _ c.args.w.now c.refused.new.w c.in-Err.error c.refused.result c.refused.ensures.error
-    c.refused.ensures.unchanged)
+    trees-make c.args.rules c.args.w.now.leaves.now c.args.ty.now c.args.target t st c.args.w.now c.refuse.new.w c.refuse.result other
+    (makes-refused c.args.target.form.recipe _ c.args.w.now c.refuse.new.w c.in-Err.error c.refuse.result c.refuse.ensures.error
+    c.refuse.ensures.unchanged)
 
-pub used-requires-clause-row : goal.used-requires-clause-row
-used-requires-clause-row g c =
+pub convert_handle-requires-clause-row : goal.convert_handle-requires-clause-row
+convert_handle-requires-clause-row g c =
     found-row c.args.rules c.args.w.now.leaves.now.classes c.args.target.ty c.args.target.weight c.args.ty.now c.in-Ok.asked c.in-Ok.ensures.tells
 
 pub returns-in-Ok-clause-obeys : goal.returns-in-Ok-clause-obeys
@@ -56,9 +56,9 @@ returns-in-Ok-clause-obeys g c =
     differs c.is_same_method_type.result c.ty.result.now c.args.target.ty c.args.ty.now c.if-is_same_method_type.false c.is_same_method_type.ensures
     c.ty.ensures.ty
     in
-    used-obeys c.args.rules _ c.args.w.now.leaves.now.classes c.in-Ok.asked c.args.target c.used.result
+    used-obeys c.args.rules _ c.args.w.now.leaves.now.classes c.in-Ok.asked c.args.target c.convert_handle.result
     (sym (row-of-other c.args.rules c.args.w.now.leaves.now.classes c.args.target.ty c.args.target.weight c.args.ty.now other) ∙ c.in-Ok.ensures.tells)
-    c.used.ensures.accepted c.used.ensures.used
+    c.convert_handle.ensures.accepted c.convert_handle.ensures.used
 
 pub returns-in-Ok-clause-makes : goal.returns-in-Ok-clause-makes
 returns-in-Ok-clause-makes g c t st =
@@ -66,9 +66,10 @@ returns-in-Ok-clause-makes g c t st =
     differs c.is_same_method_type.result c.ty.result.now c.args.target.ty c.args.ty.now c.if-is_same_method_type.false c.is_same_method_type.ensures
     c.ty.ensures.ty
     in
-    used-makes c.args.rules c.args.w.now.leaves.now c.args.ty.now c.args.target t st c.in-Ok.asked c.args.w.now c.used.new.w c.used.result other
+    used-makes c.args.rules c.args.w.now.leaves.now c.args.ty.now c.args.target t st c.in-Ok.asked c.args.w.now c.convert_handle.new.w
+    c.convert_handle.result other
     c.in-Ok.ensures.tells
-    c.used.ensures.makes
+    c.convert_handle.ensures.makes
 
 pub returns-in-Ok-clause-stands : goal.returns-in-Ok-clause-stands
 returns-in-Ok-clause-stands g c t st =
@@ -76,9 +77,9 @@ returns-in-Ok-clause-stands g c t st =
     differs c.is_same_method_type.result c.ty.result.now c.args.target.ty c.args.ty.now c.if-is_same_method_type.false c.is_same_method_type.ensures
     c.ty.ensures.ty
     in
-    asked-stands c.args.rules c.args.w.now.leaves.now c.args.ty.now c.in-Ok.asked c.args.target t c.used.result c.in-Ok.ensures.are other
+    asked-stands c.args.rules c.args.w.now.leaves.now c.args.ty.now c.in-Ok.asked c.args.target t c.convert_handle.result c.in-Ok.ensures.are other
     c.in-Ok.ensures.tells st
-    c.used.ensures.used
+    c.convert_handle.ensures.used
 
 pub returns-in-Ok-clause-used : goal.returns-in-Ok-clause-used
 returns-in-Ok-clause-used g c =
@@ -86,8 +87,9 @@ returns-in-Ok-clause-used g c =
     differs c.is_same_method_type.result c.ty.result.now c.args.target.ty c.args.ty.now c.if-is_same_method_type.false c.is_same_method_type.ensures
     c.ty.ensures.ty
     in
-    use-other c.args.rules c.args.w.now.leaves.now.classes c.args.target.ty c.args.ty.now c.in-Ok.asked c.args.target c.used.result other c.in-Ok.ensures.tells
-    c.used.ensures.used
+    use-other c.args.rules c.args.w.now.leaves.now.classes c.args.target.ty c.args.ty.now c.in-Ok.asked c.args.target c.convert_handle.result other
+    c.in-Ok.ensures.tells
+    c.convert_handle.ensures.used
 
 pub returns-then-is_same_method_type-clause-types : goal.returns-then-is_same_method_type-clause-types
 returns-then-is_same_method_type-clause-types g c =
@@ -98,7 +100,7 @@ pub returns-in-Err-clause-types : goal.returns-in-Err-clause-types
 returns-in-Err-clause-types g c =
     trades-checked (used_types_by c.args.rules c.args.w.now.leaves.now.classes c.args.target.ty c.args.target.weight c.args.ty.now) c.args.target.held
     c.args.w.now
-    c.refused.new.w c.in-Err.error c.refused.result c.refused.ensures.error c.refused.ensures.types
+    c.refuse.new.w c.in-Err.error c.refuse.result c.refuse.ensures.error c.refuse.ensures.types
 
 pub returns-in-Ok-clause-types : goal.returns-in-Ok-clause-types
 returns-in-Ok-clause-types g c =
@@ -107,5 +109,5 @@ returns-in-Ok-clause-types g c =
     c.ty.ensures.ty
     in
     trades-used c.args.rules c.args.w.now.leaves.now.classes c.args.target.ty c.args.target.weight c.args.ty.now c.in-Ok.asked c.args.target.held
-    c.args.w.now c.used.new.w
-    c.used.result other c.in-Ok.ensures.tells c.used.ensures.types
+    c.args.w.now c.convert_handle.new.w
+    c.convert_handle.result other c.in-Ok.ensures.tells c.convert_handle.ensures.types

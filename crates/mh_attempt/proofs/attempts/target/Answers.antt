@@ -8,12 +8,12 @@ use Rattle.mh_attempt.proofs.JobCalls.{job-leaves, job-method}
 use Rattle.mh_attempt.proofs.Outcomes.{job-asked, job-types}
 use Rattle.mh_attempt.proofs.attempts.target.Goals as goal
 
-pub called-requires-clause-method : goal.called-requires-clause-method
-called-requires-clause-method g c =
+pub call_bootstrap-requires-clause-method : goal.call_bootstrap-requires-clause-method
+call_bootstrap-requires-clause-method g c =
     job-method c.args.w.now.leaves.now c.args.scripts.now c.args.job.now c.in_ok-call.call c.requires.job c.in_ok-call.ensures
 
-pub called-requires-clause-leaves : goal.called-requires-clause-leaves
-called-requires-clause-leaves g c =
+pub call_bootstrap-requires-clause-leaves : goal.call_bootstrap-requires-clause-leaves
+call_bootstrap-requires-clause-leaves g c =
     job-leaves c.args.w.now.leaves.now c.args.scripts.now c.args.job.now c.in_ok-call.call c.requires.job c.in_ok-call.ensures
 
 pub returns-clause-asks : goal.returns-clause-asks
@@ -21,8 +21,9 @@ returns-clause-asks g c =
     let leaves = c.args.w.now.leaves.now in
     same-asks (attempt_recipes leaves c.args.scripts.now c.args.job.now c.args.serial)
     (target_recipes leaves c.args.scripts.now c.args.serial c.in_ok-call.call)
-    c.args.w.now c.called.new.w c.called.result (job-asked leaves c.args.scripts.now c.args.job.now c.args.serial c.in_ok-call.call c.in_ok-call.ensures)
-    c.called.ensures.asks
+    c.args.w.now c.call_bootstrap.new.w c.call_bootstrap.result
+    (job-asked leaves c.args.scripts.now c.args.job.now c.args.serial c.in_ok-call.call c.in_ok-call.ensures)
+    c.call_bootstrap.ensures.asks
 
 pub returns-in_err-call-clause-types : goal.returns-in_err-call-clause-types
 returns-in_err-call-clause-types g c =
@@ -34,5 +35,6 @@ pub returns-clause-asked : goal.returns-clause-asked
 returns-clause-asked g c =
     let leaves = c.args.w.now.leaves.now in
     same-types (job_types leaves c.args.scripts.now c.args.job.now c.args.serial) (target_types leaves c.args.scripts.now c.args.serial c.in_ok-call.call)
-    c.args.w.now c.called.new.w c.called.result (job-types leaves c.args.scripts.now c.args.job.now c.args.serial c.in_ok-call.call c.in_ok-call.ensures)
-    c.called.ensures.asked
+    c.args.w.now c.call_bootstrap.new.w c.call_bootstrap.result
+    (job-types leaves c.args.scripts.now c.args.job.now c.args.serial c.in_ok-call.call c.in_ok-call.ensures)
+    c.call_bootstrap.ensures.asked

@@ -31,5 +31,5 @@ returns-in-Ok-clause-stands g c a st =
 
 pub returns-in-Err-clause-types : goal.returns-in-Err-clause-types
 returns-in-Err-clause-types g c =
-    trades-checked (c.args.ty ∷ []) c.args.target.held c.args.w.now c.refused.new.w check.NoMemory c.refused.result c.refused.ensures.error
-    c.refused.ensures.types
+    trades-checked (c.args.ty ∷ []) c.args.target.held c.args.w.now c.refuse.new.w check.NoMemory c.refuse.result c.refuse.ensures.error
+    c.refuse.ensures.types

@@ -17,4 +17,4 @@ pub returns-in-Err-clause-types : goal.returns-in-Err-clause-types
 returns-in-Err-clause-types g c =
     trades-checked (types_in (catch_row c.args.w.now.leaves.now.classes c.args.target.ty c.args.target.weight c.args.class c.args.handler.ty
     c.args.handler.weight))
-    (c.args.target.held ++ c.args.handler.held) c.args.w.now c.refused.new.w c.in-Err.error c.refused.result c.refused.ensures.error c.refused.ensures.types
+    (c.args.target.held ++ c.args.handler.held) c.args.w.now c.refuse.new.w c.in-Err.error c.refuse.result c.refuse.ensures.error c.refuse.ensures.types

@@ -16,5 +16,5 @@ returns-in-Ok-clause-types g c =
 pub returns-in-Err-clause-types : goal.returns-in-Err-clause-types
 returns-in-Err-clause-types g c =
     trades-checked (types_in (guard_row c.args.test.ty c.args.test.weight c.args.target.ty c.args.target.weight c.args.fallback.ty c.args.fallback.weight))
-    (c.args.test.held ++ c.args.target.held ++ c.args.fallback.held) c.args.w.now c.refused.new.w c.in-Err.error c.refused.result
-    c.refused.ensures.error c.refused.ensures.types
+    (c.args.test.held ++ c.args.target.held ++ c.args.fallback.held) c.args.w.now c.refuse.new.w c.in-Err.error c.refuse.result
+    c.refuse.ensures.error c.refuse.ensures.types

@@ -11,53 +11,54 @@ use Rattle.mh_branch.proofs.branches.guard_of.Goals as goal
 pub guard_key-requires : goal.guard_key-requires
 guard_key-requires g c = record { few = guard-few c.args.branches c.args.ty c.requires.ruled }
 
-pub rooted-requires-clause-fits : goal.rooted-requires-clause-fits
-rooted-requires-clause-fits g c = guard-fits-by c.args.branches c.args.ty c.requires.ruled c.in-Ok.key c.in-Ok.ensures
+pub make_rooted-requires-clause-fits : goal.make_rooted-requires-clause-fits
+make_rooted-requires-clause-fits g c = guard-fits-by c.args.branches c.args.ty c.requires.ruled c.in-Ok.key c.in-Ok.ensures
 
-pub rooted-requires-clause-light : goal.rooted-requires-clause-light
-rooted-requires-clause-light g c = guard-light c.args.branches c.args.ty c.requires.ruled c.weight-weight.result c.weight-weight.ensures.weight
+pub make_rooted-requires-clause-light : goal.make_rooted-requires-clause-light
+make_rooted-requires-clause-light g c = guard-light c.args.branches c.args.ty c.requires.ruled c.weight-weight.result c.weight-weight.ensures.weight
 
-pub rooted-requires-clause-few : goal.rooted-requires-clause-few
-rooted-requires-clause-few g c =
+pub make_rooted-requires-clause-few : goal.make_rooted-requires-clause-few
+make_rooted-requires-clause-few g c =
     guard-held c.args.branches c.args.ty c.requires.ruled c.in-Ok.key c.in-Ok.ensures c.weight-weight.result c.weight-weight.ensures.weight
     c.in_ok-parts-in-Ok.parts c.in_ok-parts-in-Ok.ensures.parts c.weight-weight.ensures.shaped
 
-pub rooted-requires-clause-ready : goal.rooted-requires-clause-ready
-rooted-requires-clause-ready g c =
+pub make_rooted-requires-clause-ready : goal.make_rooted-requires-clause-ready
+make_rooted-requires-clause-ready g c =
     ready-still 1 c.args.w.now c.guard_parts.new.w c.in_ok-parts-in-Ok.ensures.unchanged c.in_ok-parts-in-Ok.ensures.types c.requires.ready
 
-pub rooted-requires-clause-held : goal.rooted-requires-clause-held
-rooted-requires-clause-held g c =
+pub make_rooted-requires-clause-held : goal.make_rooted-requires-clause-held
+make_rooted-requires-clause-held g c =
     held-same c.in_ok-parts-in-Ok.parts.held (c.args.branches.test.held ++ c.args.branches.target.held ++ c.args.branches.fallback.held)
     c.args.w.now.seat.now c.guard_parts.new.w.seat.now c.in_ok-parts-in-Ok.ensures.types c.in_ok-parts-in-Ok.ensures.parts.held c.requires.held
 
 pub returns-in-Ok-clause-types : goal.returns-in-Ok-clause-types
 returns-in-Ok-clause-types g c =
     trades-parts c.args.ty c.in_ok-parts-in-Ok.parts.held (c.args.branches.test.held ++ c.args.branches.target.held ++ c.args.branches.fallback.held)
-    c.args.w.now c.guard_parts.new.w c.rooted.new.w c.rooted.result c.in_ok-parts-in-Ok.ensures.parts.held c.in_ok-parts-in-Ok.ensures.types
-    c.rooted.ensures.types
+    c.args.w.now c.guard_parts.new.w c.make_rooted.new.w c.make_rooted.result c.in_ok-parts-in-Ok.ensures.parts.held c.in_ok-parts-in-Ok.ensures.types
+    c.make_rooted.ensures.types
 
 pub returns-in-Ok-clause-goes_on : goal.returns-in-Ok-clause-goes_on
 returns-in-Ok-clause-goes_on g c =
-    goes_on-after 1 c.args.w.now c.guard_parts.new.w c.rooted.new.w c.in_ok-parts-in-Ok.ensures.unchanged
-    (seated-still c.args.w.now c.guard_parts.new.w c.in_ok-parts-in-Ok.ensures.types) c.rooted.ensures.goes_on
+    goes_on-after 1 c.args.w.now c.guard_parts.new.w c.make_rooted.new.w c.in_ok-parts-in-Ok.ensures.unchanged
+    (seated-still c.args.w.now c.guard_parts.new.w c.in_ok-parts-in-Ok.ensures.types) c.make_rooted.ensures.goes_on
 
 pub returns-in-Ok-clause-makes : goal.returns-in-Ok-clause-makes
 returns-in-Ok-clause-makes g c x y z tests stands others =
-    makes-after (recipe c.args.w.now.leaves.now (tree.Guard x y z)) c.args.w.now c.guard_parts.new.w c.rooted.new.w c.rooted.result
+    makes-after (recipe c.args.w.now.leaves.now (tree.Guard x y z)) c.args.w.now c.guard_parts.new.w c.make_rooted.new.w c.make_rooted.result
     c.in_ok-parts-in-Ok.ensures.unchanged
-    (guard-makes c.args.branches c.args.ty c.requires.ruled c.in-Ok.key c.in-Ok.ensures c.args.w.now.leaves.now c.guard_parts.new.w c.rooted.new.w
-    c.rooted.result x y z tests stands c.rooted.ensures.makes)
+    (guard-makes c.args.branches c.args.ty c.requires.ruled c.in-Ok.key c.in-Ok.ensures c.args.w.now.leaves.now c.guard_parts.new.w c.make_rooted.new.w
+    c.make_rooted.result x y z tests stands c.make_rooted.ensures.makes)
 
 pub returns-in-Ok-clause-gains : goal.returns-in-Ok-clause-gains
 returns-in-Ok-clause-gains g c =
     guard-gains c.args.branches c.args.ty c.requires.ruled c.in-Ok.key c.in-Ok.ensures c.weight-weight.result c.weight-weight.ensures.weight
-    c.in_ok-parts-in-Ok.parts c.in_ok-parts-in-Ok.ensures.parts c.rooted.result c.rooted.ensures.grows
+    c.in_ok-parts-in-Ok.parts c.in_ok-parts-in-Ok.ensures.parts c.make_rooted.result c.make_rooted.ensures.grows
 
 pub returns-in-Ok-clause-stands : goal.returns-in-Ok-clause-stands
 returns-in-Ok-clause-stands g c x y z tests stands others =
     guard-answers c.args.branches c.args.ty c.requires.ruled c.in-Ok.key c.in-Ok.ensures c.weight-weight.result c.weight-weight.ensures.weight
-    c.in_ok-parts-in-Ok.parts c.in_ok-parts-in-Ok.ensures.parts c.args.w.now.leaves.now c.rooted.result x y z c.rooted.ensures.grows tests stands others
+    c.in_ok-parts-in-Ok.parts c.in_ok-parts-in-Ok.ensures.parts c.args.w.now.leaves.now c.make_rooted.result x y z c.make_rooted.ensures.grows tests stands
+    others
 
 pub returns-in_err-parts-in-Ok-clause-types : goal.returns-in_err-parts-in-Ok-clause-types
 returns-in_err-parts-in-Ok-clause-types g c =
@@ -67,4 +68,4 @@ returns-in_err-parts-in-Ok-clause-types g c =
 pub returns-clause-types : goal.returns-clause-types
 returns-clause-types g c =
     trades-checked (c.args.ty ∷ []) (c.args.branches.test.held ++ c.args.branches.target.held ++ c.args.branches.fallback.held) c.args.w.now
-    c.refused.new.w check.NoMemory c.refused.result c.refused.ensures.error c.refused.ensures.types
+    c.refuse.new.w check.NoMemory c.refuse.result c.refuse.ensures.error c.refuse.ensures.types

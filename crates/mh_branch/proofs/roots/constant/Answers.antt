@@ -14,14 +14,15 @@ returns-clause-stands g c =
     let fits : fit c.args.w.now.leaves.now.classes c.args.value c.in-Some.ret ≡ Ok c.fitted.result =
     sym (ap (λ cs. fit cs c.args.value c.in-Some.ret) c.classes-classes.ensures) ∙ c.fitted.ensures in
     constant-answers c.args.w.now.leaves.now c.args.ty c.args.value c.in_ok-own.own c.in-Some.ret c.fitted.result c.erase-slot.result c.basic_of.result
-    c.of_fields.result.sides c.of_fields.result.fields c.rooted.result
+    c.of_fields.result.sides c.of_fields.result.fields c.make_rooted.result
     row c.in-Some.is fits c.erase-slot.ensures c.basic_of.ensures (ap (λ (p : PartsView). p.sides) c.of_fields.ensures)
-    (ap (λ (p : PartsView). p.fields) c.of_fields.ensures ∙ c.in_ok-fields.ensures) c.rooted.ensures.grows
+    (ap (λ (p : PartsView). p.fields) c.of_fields.ensures ∙ c.in_ok-fields.ensures) c.make_rooted.ensures.grows
 
 pub returns-clause-types : goal.returns-clause-types
 returns-clause-types g c =
     let row : constant_row c.args.w.now.leaves.now.classes c.args.ty c.args.value ≡ Ok c.in_ok-own.own =
     sym (ap (λ cs. constant_row cs c.args.ty c.args.value) c.classes-classes.ensures) ∙ c.in_ok-own.ensures in
-    trades-row (constant_row c.args.w.now.leaves.now.classes c.args.ty c.args.value) c.in_ok-own.own [] c.args.w.now c.rooted.new.w c.rooted.result row
-    (subst (λ (p : PartsView). TradesTypes (c.in_ok-own.own ∷ []) p.held c.args.w.now c.rooted.new.w c.rooted.result)
-    c.of_fields.ensures c.rooted.ensures.types)
+    trades-row (constant_row c.args.w.now.leaves.now.classes c.args.ty c.args.value) c.in_ok-own.own [] c.args.w.now c.make_rooted.new.w c.make_rooted.result
+    row
+    (subst (λ (p : PartsView). TradesTypes (c.in_ok-own.own ∷ []) p.held c.args.w.now c.make_rooted.new.w c.make_rooted.result)
+    c.of_fields.ensures c.make_rooted.ensures.types)

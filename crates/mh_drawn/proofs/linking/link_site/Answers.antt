@@ -1,4 +1,4 @@
-use Rattle.std.proofs.Common.{◌≡◌, sym, subst, ◌+◌, Some, slice_get, arith}
+use Rattle.std.proofs.Common.{◌≡◌, sym, subst, Some, slice_get, arith}
 use Rattle.mh_handle.specs.Recipe.{recipe}
 use Rattle.mh_link.specs.Sites.{edits_at, types_at}
 use Rattle.mh_attempt.specs.Asked.{Asks}

@@ -1,4 +1,4 @@
-use Rattle.std.proofs.Common.{◌≡◌, refl, sym, ◌∙◌, ap, ap₂, subst, ◌+◌, ◌<◌, length, arith}
+use Rattle.std.proofs.Common.{refl, ◌∙◌, ap₂, subst, ◌<◌, length, arith}
 use Rattle.std.proofs.lemmas.Option.{slice_get_read}
 use Rattle.mh_link.specs.Sites.{linked_at}
 use Rattle.mh_attempt.specs.Linkage.{IsLinkedBy}

@@ -1,10 +1,8 @@
-use Rattle.std.proofs.Common.{inl, inr, List, ℕ, Some}
+use Rattle.std.proofs.Common.{inl}
 use Rattle.std.proofs.lemmas.Result.{IfOk-weaker}
 use Rattle.mh_words.specs.Options.{said}
-use Rattle.mh_words.specs.Words.{held_names}
-use Rattle.mh_drawn.specs.Answer.{AnswersRequest, IsAnswerTo, SaysUsage}
-use Rattle.mh_drawn.specs.Words.{held_asked}
-use Rattle.mh_drawn.proofs.Requests.{no-asked, no-names, of-names, request}
+use Rattle.mh_drawn.specs.Answer.{IsAnswerTo, SaysUsage}
+use Rattle.mh_drawn.proofs.Requests.{no-asked}
 use Rattle.mh_drawn.proofs.program.answer_words.Goals as goal
 
 pub returns-in_default : goal.returns-in_default

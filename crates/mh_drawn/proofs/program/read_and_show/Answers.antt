@@ -1,4 +1,4 @@
-use Rattle.std.proofs.Common.{inl, inr}
+use Rattle.std.proofs.Common.{inr}
 use Rattle.std.proofs.lemmas.Result.{IfErr-weaker, IfOk-weaker}
 use Rattle.mh_words.specs.Words.{held_names}
 use Rattle.mh_drawn.specs.Answer.{IsShown, ShowsRead, StopsRequest, StopsShowing}

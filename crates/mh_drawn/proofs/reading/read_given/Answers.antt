@@ -1,5 +1,4 @@
 use Rattle.std.proofs.Common.{◌∙◌, inl, inr}
-use Rattle.mh_leaves.specs.Manifest.{manifest, kind_word as manifest_word}
 use Rattle.mh_script.specs.Kinds.{kind_word as script_word}
 use Rattle.mh_script.specs.Scripts.{scripts}
 use Rattle.mh_words.specs.Words.{held_names}

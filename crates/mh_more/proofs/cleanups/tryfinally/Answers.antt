@@ -11,8 +11,8 @@ use Rattle.mh_more.proofs.cleanups.tryfinally.Goals as goal
 pub give_back-requires-clause-held : goal.give_back-requires-clause-held
 give_back-requires-clause-held g c = held-first c.args.w.now.seat.now c.args.target.held c.args.cleanup.held c.requires.held
 
-pub refused-requires-clause-held : goal.refused-requires-clause-held
-refused-requires-clause-held g c =
+pub refuse-requires-clause-held : goal.refuse-requires-clause-held
+refuse-requires-clause-held g c =
     second-yet c.args.target.held c.args.cleanup.held c.args.w.now.seat.now c.give_back.new.w.seat.now c.requires.held c.give_back.ensures.types
 
 pub returns-in-Ok-clause-obeys : goal.returns-in-Ok-clause-obeys
@@ -27,6 +27,6 @@ returns-in-Ok-clause-types g c =
 pub returns-in-Err-clause-types : goal.returns-in-Err-clause-types
 returns-in-Err-clause-types g c =
     trades-checked (types_in (tryfinally_row c.args.target.ty c.args.target.weight c.args.cleanup.ty c.args.cleanup.weight))
-    (c.args.target.held ++ c.args.cleanup.held) c.args.w.now c.refused.new.w c.in-Err.error c.refused.result c.refused.ensures.error
-    (exchanges-back c.args.target.held c.args.cleanup.held c.args.w.now.seat.now c.give_back.new.w.seat.now c.refused.new.w.seat.now
-    c.give_back.ensures.types c.refused.ensures.types)
+    (c.args.target.held ++ c.args.cleanup.held) c.args.w.now c.refuse.new.w c.in-Err.error c.refuse.result c.refuse.ensures.error
+    (exchanges-back c.args.target.held c.args.cleanup.held c.args.w.now.seat.now c.give_back.new.w.seat.now c.refuse.new.w.seat.now
+    c.give_back.ensures.types c.refuse.ensures.types)

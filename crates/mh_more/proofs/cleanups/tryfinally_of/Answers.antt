@@ -15,56 +15,57 @@ use Rattle.mh_more.proofs.Rooting.{roots-same, roots-typed, roots-types}
 use Rattle.mh_more.proofs.TryAnswers.{try-answers, try-can, try-gains, try-makes}
 use Rattle.mh_more.proofs.cleanups.tryfinally_of.Goals as goal
 
-pub rooted-requires-clause-can : goal.rooted-requires-clause-can
-rooted-requires-clause-can g c =
+pub make_rooted_of-requires-clause-can : goal.make_rooted_of-requires-clause-can
+make_rooted_of-requires-clause-can g c =
     subst (λ hs. CanRoot hs c.in-Ok.root) (sym c.in_ok-handles-in-Ok.ensures.listed)
     (try-can c.args.target c.args.cleanup c.args.ty c.requires.ruled c.in-Ok.root c.in-Ok.ensures.root c.try_root.ensures.shaped)
 
-pub rooted-requires-clause-ready : goal.rooted-requires-clause-ready
-rooted-requires-clause-ready g c = ready-still 1 c.args.w.now c.pair.new.w c.in_ok-handles-in-Ok.ensures.unchanged
+pub make_rooted_of-requires-clause-ready : goal.make_rooted_of-requires-clause-ready
+make_rooted_of-requires-clause-ready g c = ready-still 1 c.args.w.now c.pair.new.w c.in_ok-handles-in-Ok.ensures.unchanged
     c.in_ok-handles-in-Ok.ensures.types c.requires.ready
 
-pub rooted-requires-clause-held : goal.rooted-requires-clause-held
-rooted-requires-clause-held g c =
+pub make_rooted_of-requires-clause-held : goal.make_rooted_of-requires-clause-held
+make_rooted_of-requires-clause-held g c =
     held-same (holds_of c.in_ok-handles-in-Ok.handles) (c.args.target.held ++ c.args.cleanup.held) c.args.w.now.seat.now c.pair.new.w.seat.now
     c.in_ok-handles-in-Ok.ensures.types
     (ap holds_of c.in_ok-handles-in-Ok.ensures.listed ∙ pair-held c.args.target c.args.cleanup) c.requires.held
 
 pub returns-in_ok-handles-in-Ok-clause-typed : goal.returns-in_ok-handles-in-Ok-clause-typed
-returns-in_ok-handles-in-Ok-clause-typed g c = roots-typed c.in-Ok.root c.in_ok-handles-in-Ok.handles c.args.ty c.rooted.result c.in-Ok.ensures.root.typed
-    c.rooted.ensures.roots
+returns-in_ok-handles-in-Ok-clause-typed g c = roots-typed c.in-Ok.root c.in_ok-handles-in-Ok.handles c.args.ty c.make_rooted_of.result
+    c.in-Ok.ensures.root.typed
+    c.make_rooted_of.ensures.roots
 
 pub returns-in_ok-handles-in-Ok-clause-types : goal.returns-in_ok-handles-in-Ok-clause-types
 returns-in_ok-handles-in-Ok-clause-types g c =
     roots-types c.in-Ok.root c.args.ty (holds_of c.in_ok-handles-in-Ok.handles) (c.args.target.held ++ c.args.cleanup.held) c.args.w.now c.pair.new.w
-    c.rooted.new.w c.rooted.result
+    c.make_rooted_of.new.w c.make_rooted_of.result
     c.in-Ok.ensures.root.typed (ap holds_of c.in_ok-handles-in-Ok.ensures.listed ∙ pair-held c.args.target c.args.cleanup)
-    c.in_ok-handles-in-Ok.ensures.types c.rooted.ensures.types
+    c.in_ok-handles-in-Ok.ensures.types c.make_rooted_of.ensures.types
 
 pub returns-in_ok-handles-in-Ok-clause-goes_on : goal.returns-in_ok-handles-in-Ok-clause-goes_on
 returns-in_ok-handles-in-Ok-clause-goes_on g c =
-    goes_on-after 1 c.args.w.now c.pair.new.w c.rooted.new.w c.in_ok-handles-in-Ok.ensures.unchanged (seated-still c.args.w.now c.pair.new.w
-    c.in_ok-handles-in-Ok.ensures.types) c.rooted.ensures.goes_on
+    goes_on-after 1 c.args.w.now c.pair.new.w c.make_rooted_of.new.w c.in_ok-handles-in-Ok.ensures.unchanged (seated-still c.args.w.now c.pair.new.w
+    c.in_ok-handles-in-Ok.ensures.types) c.make_rooted_of.ensures.goes_on
 
 pub returns-in_ok-handles-in-Ok-clause-makes : goal.returns-in_ok-handles-in-Ok-clause-makes
 returns-in_ok-handles-in-Ok-clause-makes g c x y stands cleans =
-    makes-after (recipe c.args.w.now.leaves.now (tree.TryFinally x y)) c.args.w.now c.pair.new.w c.rooted.new.w c.rooted.result
+    makes-after (recipe c.args.w.now.leaves.now (tree.TryFinally x y)) c.args.w.now c.pair.new.w c.make_rooted_of.new.w c.make_rooted_of.result
     c.in_ok-handles-in-Ok.ensures.unchanged
     (try-makes c.args.target c.args.cleanup c.args.ty c.requires.ruled c.in-Ok.root c.in-Ok.ensures.root c.args.w.now.leaves.now c.pair.new.w
-    c.rooted.new.w c.rooted.result x y stands cleans
-    c.rooted.ensures.makes)
+    c.make_rooted_of.new.w c.make_rooted_of.result x y stands cleans
+    c.make_rooted_of.ensures.makes)
 
 pub returns-in_ok-handles-in-Ok-clause-gains : goal.returns-in_ok-handles-in-Ok-clause-gains
 returns-in_ok-handles-in-Ok-clause-gains g c =
-    try-gains c.args.target c.args.cleanup c.args.ty c.requires.ruled c.in-Ok.root c.in-Ok.ensures.root c.rooted.result
-    (roots-same c.in-Ok.root c.in_ok-handles-in-Ok.handles (c.args.target ∷ c.args.cleanup ∷ []) c.rooted.result c.in_ok-handles-in-Ok.ensures.listed
-    c.rooted.ensures.roots)
+    try-gains c.args.target c.args.cleanup c.args.ty c.requires.ruled c.in-Ok.root c.in-Ok.ensures.root c.make_rooted_of.result
+    (roots-same c.in-Ok.root c.in_ok-handles-in-Ok.handles (c.args.target ∷ c.args.cleanup ∷ []) c.make_rooted_of.result c.in_ok-handles-in-Ok.ensures.listed
+    c.make_rooted_of.ensures.roots)
 
 pub returns-in_ok-handles-in-Ok-clause-stands : goal.returns-in_ok-handles-in-Ok-clause-stands
 returns-in_ok-handles-in-Ok-clause-stands g c x y stands cleans =
-    try-answers c.args.target c.args.cleanup c.args.ty c.requires.ruled c.in-Ok.root c.in-Ok.ensures.root c.args.w.now.leaves.now c.rooted.result x y
-    (roots-same c.in-Ok.root c.in_ok-handles-in-Ok.handles (c.args.target ∷ c.args.cleanup ∷ []) c.rooted.result c.in_ok-handles-in-Ok.ensures.listed
-    c.rooted.ensures.roots) stands cleans
+    try-answers c.args.target c.args.cleanup c.args.ty c.requires.ruled c.in-Ok.root c.in-Ok.ensures.root c.args.w.now.leaves.now c.make_rooted_of.result x y
+    (roots-same c.in-Ok.root c.in_ok-handles-in-Ok.handles (c.args.target ∷ c.args.cleanup ∷ []) c.make_rooted_of.result c.in_ok-handles-in-Ok.ensures.listed
+    c.make_rooted_of.ensures.roots) stands cleans
 
 pub returns-in_err-handles-in-Ok-clause-types : goal.returns-in_err-handles-in-Ok-clause-types
 returns-in_err-handles-in-Ok-clause-types g c =
@@ -75,13 +76,13 @@ returns-in_err-handles-in-Ok-clause-types g c =
 pub give_back-requires-clause-held : goal.give_back-requires-clause-held
 give_back-requires-clause-held g c = held-first c.args.w.now.seat.now c.args.target.held c.args.cleanup.held c.requires.held
 
-pub refused-requires-clause-held : goal.refused-requires-clause-held
-refused-requires-clause-held g c =
+pub refuse-requires-clause-held : goal.refuse-requires-clause-held
+refuse-requires-clause-held g c =
     second-yet c.args.target.held c.args.cleanup.held c.args.w.now.seat.now c.give_back.new.w.seat.now c.requires.held c.give_back.ensures.types
 
 pub returns-in-Err-clause-types : goal.returns-in-Err-clause-types
 returns-in-Err-clause-types g c =
-    trades-checked (c.args.ty ∷ []) (c.args.target.held ++ c.args.cleanup.held) c.args.w.now c.refused.new.w check.NoMemory c.refused.result
-    c.refused.ensures.error
-    (exchanges-back c.args.target.held c.args.cleanup.held c.args.w.now.seat.now c.give_back.new.w.seat.now c.refused.new.w.seat.now
-    c.give_back.ensures.types c.refused.ensures.types)
+    trades-checked (c.args.ty ∷ []) (c.args.target.held ++ c.args.cleanup.held) c.args.w.now c.refuse.new.w check.NoMemory c.refuse.result
+    c.refuse.ensures.error
+    (exchanges-back c.args.target.held c.args.cleanup.held c.args.w.now.seat.now c.give_back.new.w.seat.now c.refuse.new.w.seat.now
+    c.give_back.ensures.types c.refuse.ensures.types)

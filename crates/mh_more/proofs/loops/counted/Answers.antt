@@ -16,5 +16,5 @@ returns-in-Ok-clause-types g c =
 pub returns-in-Err-clause-types : goal.returns-in-Err-clause-types
 returns-in-Err-clause-types g c =
     trades-checked (types_in (counted_row c.args.iterations.ty c.args.iterations.weight c.args.init.ty c.args.init.weight c.args.body.ty c.args.body.weight))
-    (c.args.iterations.held ++ c.args.init.held ++ c.args.body.held) c.args.w.now c.refused.new.w c.in-Err.error c.refused.result
-    c.refused.ensures.error c.refused.ensures.types
+    (c.args.iterations.held ++ c.args.init.held ++ c.args.body.held) c.args.w.now c.refuse.new.w c.in-Err.error c.refuse.result
+    c.refuse.ensures.error c.refuse.ensures.types

@@ -17,5 +17,5 @@ returns-in-Ok-clause-types g c =
 pub returns-in-Err-clause-types : goal.returns-in-Err-clause-types
 returns-in-Err-clause-types g c =
     trades-checked (types_in (switch_row c.args.fallback.ty c.args.fallback.weight (own_types c.args.cases) (weights_of c.args.cases)))
-    (c.args.fallback.held ++ holds_of c.args.cases) c.args.w.now c.refused.new.w c.in-Err.error c.refused.result c.refused.ensures.error
-    c.refused.ensures.types
+    (c.args.fallback.held ++ holds_of c.args.cases) c.args.w.now c.refuse.new.w c.in-Err.error c.refuse.result c.refuse.ensures.error
+    c.refuse.ensures.types

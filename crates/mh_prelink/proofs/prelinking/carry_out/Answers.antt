@@ -70,7 +70,7 @@ pub returns-clause-did : goal.returns-clause-did
 returns-clause-did g c =
     let l = c.args.linking.now in
     let is : c.insert.new.self.items ≡ done_by c.finish.new.mine ∷ map (λ x. done_by x.work) c.work_beside-owner.result.2.items =
-    c.in-Ok.ensures.items ∙ all_workers c.finish.new.mine _ c.work_beside-owner.result.2.items _ c.ended.ensures
+    c.in-Ok.ensures.items ∙ all_workers c.finish.new.mine _ c.work_beside-owner.result.2.items _ c.finish_work.ensures
     (c.gather.ensures.workers ∙ ap (λ z. z ++ map (λ x. done_by x.work) c.work_beside-owner.result.2.items) c.requires.workers.0) in
     let done = Did {P = g.row.L-Pass.Denot} {E = g.row.L-Stop.Denot} (g.L.Linking.step l) (g.L.Linking.has l) in
     let ran = HasStolen {P = g.row.L-Pass.Denot} {E = g.row.L-Stop.Denot} (λ x. IsPassOf (stealer_deque c.args.thief) x.place) (g.L.Linking.step l)
@@ -93,7 +93,7 @@ returns-clause-below g c =
     (popped.more.1.1 ∙ ap (λ z. z ++ popped.more.1.0) c.requires.mine.1) c.gather.ensures.tallies c.finish.ensures.tallies.1.2
     c.finish.ensures.tallies.1.1 in
     let is : c.insert.new.self.items ≡ done_by c.finish.new.mine ∷ map (λ x. done_by x.work) c.work_beside-owner.result.2.items =
-    c.in-Ok.ensures.items ∙ all_workers c.finish.new.mine _ c.work_beside-owner.result.2.items _ c.ended.ensures
+    c.in-Ok.ensures.items ∙ all_workers c.finish.new.mine _ c.work_beside-owner.result.2.items _ c.finish_work.ensures
     (c.gather.ensures.workers ∙ ap (λ z. z ++ map (λ x. done_by x.work) c.work_beside-owner.result.2.items) c.requires.workers.0) in
     let all : all_taken c.insert.new.self.items ≡ c.finish.new.mine.taken.items ++ later =
     ap all_taken is ∙ taken_by_all (done_by c.finish.new.mine) lanes in
@@ -113,7 +113,7 @@ returns-clause-once g c = λ x.
     (popped.more.1.1 ∙ ap (λ z. z ++ popped.more.1.0) c.requires.mine.1) c.gather.ensures.tallies c.finish.ensures.tallies.1.2
     c.finish.ensures.tallies.1.1 in
     let is : c.insert.new.self.items ≡ done_by c.finish.new.mine ∷ map (λ x. done_by x.work) c.work_beside-owner.result.2.items =
-    c.in-Ok.ensures.items ∙ all_workers c.finish.new.mine _ c.work_beside-owner.result.2.items _ c.ended.ensures
+    c.in-Ok.ensures.items ∙ all_workers c.finish.new.mine _ c.work_beside-owner.result.2.items _ c.finish_work.ensures
     (c.gather.ensures.workers ∙ ap (λ z. z ++ map (λ x. done_by x.work) c.work_beside-owner.result.2.items) c.requires.workers.0) in
     let all : all_taken c.insert.new.self.items ≡ c.finish.new.mine.taken.items ++ later =
     ap all_taken is ∙ taken_by_all (done_by c.finish.new.mine) lanes in
@@ -132,7 +132,7 @@ returns-clause-every g c = λ none x h.
     (popped.more.1.1 ∙ ap (λ z. z ++ popped.more.1.0) c.requires.mine.1) c.gather.ensures.tallies c.finish.ensures.tallies.1.2
     c.finish.ensures.tallies.1.1 in
     let is : c.insert.new.self.items ≡ done_by c.finish.new.mine ∷ map (λ x. done_by x.work) c.work_beside-owner.result.2.items =
-    c.in-Ok.ensures.items ∙ all_workers c.finish.new.mine _ c.work_beside-owner.result.2.items _ c.ended.ensures
+    c.in-Ok.ensures.items ∙ all_workers c.finish.new.mine _ c.work_beside-owner.result.2.items _ c.finish_work.ensures
     (c.gather.ensures.workers ∙ ap (λ z. z ++ map (λ x. done_by x.work) c.work_beside-owner.result.2.items) c.requires.workers.0) in
     let all : all_taken c.insert.new.self.items ≡ c.finish.new.mine.taken.items ++ later =
     ap all_taken is ∙ taken_by_all (done_by c.finish.new.mine) lanes in

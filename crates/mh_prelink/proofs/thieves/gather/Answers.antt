@@ -38,7 +38,7 @@ loop-lane-preserved g c =
       tallies = gathered ys x (worker_view c.args.owner.now) (worker_view c.loop-lane.owner) _ (λ l. l.work.taken.items) (view x.place)
           i.tallies viewed c.absorb.ensures.rule;
       workers =
-          pushed.items ∙ ap (λ w. c.loop-lane.workers.items ++ w ∷ []) c.ended.ensures ∙ ap (λ l. l ++ done_by x.work ∷ []) i.workers
+          pushed.items ∙ ap (λ w. c.loop-lane.workers.items ++ w ∷ []) c.finish_work.ensures ∙ ap (λ l. l ++ done_by x.work ∷ []) i.workers
           ∙ append_assoc c.args.workers.now.items (map (λ l. done_by l.work) ys) (done_by x.work ∷ [])
           ∙ ap (λ l. c.args.workers.now.items ++ l) (sym (map_push (λ l. done_by l.work) ys x));
       len = let l = length_push ys x in omega (arith, pushed.len, i.len);

@@ -27,18 +27,18 @@ returns-in_err-used-clause-obeys g c =
 
 pub returns-in-Err-clause-obeys : goal.returns-in-Err-clause-obeys
 returns-in-Err-clause-obeys g c =
-    spreading-refused c.args.w.now.leaves.now.classes c.args.target.ty c.args.target.weight c.args.array c.args.count c.in-Err.error c.refused.result
-    c.in-Err.ensures.tells c.refused.ensures.error
+    spreading-refused c.args.w.now.leaves.now.classes c.args.target.ty c.args.target.weight c.args.array c.args.count c.in-Err.error c.refuse.result
+    c.in-Err.ensures.tells c.refuse.ensures.error
 
 pub returns-in-Err-clause-makes : goal.returns-in-Err-clause-makes
 returns-in-Err-clause-makes g c a st =
-    makes-none c.args.target.ty c.args.array c.args.count a c.args.w.now c.refused.new.w c.in-Err.error c.refused.result c.refused.ensures.error
-    c.refused.ensures.unchanged
+    makes-none c.args.target.ty c.args.array c.args.count a c.args.w.now c.refuse.new.w c.in-Err.error c.refuse.result c.refuse.ensures.error
+    c.refuse.ensures.unchanged
 
 pub returns-in-Err-clause-types : goal.returns-in-Err-clause-types
 returns-in-Err-clause-types g c =
     trades-checked (spread_types c.args.w.now.leaves.now.classes c.args.target.ty c.args.target.weight c.args.array c.args.count) c.args.target.held
-    c.args.w.now c.refused.new.w c.in-Err.error c.refused.result c.refused.ensures.error c.refused.ensures.types
+    c.args.w.now c.refuse.new.w c.in-Err.error c.refuse.result c.refuse.ensures.error c.refuse.ensures.types
 
 pub returns-in_err-used-clause-types : goal.returns-in_err-used-clause-types
 returns-in_err-used-clause-types g c =

@@ -1,7 +1,0 @@
-use Rattle.std.proofs.Common.{drop}
-use Rattle.mh_attempt.proofs.RunLines.{HasRun}
-use Rattle.mh_attempt.proofs.script.ran.Given as goal
-
--- what the lines so far have left
-abbrev pub invariant-loop-step : goal.invariant-loop-step
-invariant-loop-step g l = HasRun l.step-index l.steps (drop l.step-index l.steps) l.end l.initial.registers l.registers l.initial.w l.w
