@@ -33,8 +33,8 @@ use Rattle.mh_edit.proofs.Places.{length-spliced}
 use Rattle.mh_handle.specs.Grows.{Grows}
 use Rattle.mh_handle.specs.Parts.{IsPartOf}
 use Rattle.mh_handle.specs.Stands.{HandleView, Stands, handle_body}
-use Rattle.mh_handle.proofs.Erasing.{returns-runs}
-use Rattle.mh_handle.proofs.Standing.{made-fits, made-reframed}
+use Rattle.mh_handle.proofs.standing.Erasing.{returns-runs}
+use Rattle.mh_handle.proofs.standing.Standing.{made-fits, made-reframed}
 use Rattle.mh_adapt.specs.Parts.{collect_key}
 use Rattle.mh_adapt.proofs.PartFits.{collect-fits, gives-room, parted-shape, taken-count}
 use Rattle.mh_adapt.proofs.PartRuns.{first-runs}

@@ -29,8 +29,8 @@ use Rattle.mh_edit.proofs.Laws.{law-applied}
 use Rattle.mh_edit.proofs.Places.{length-spliced}
 use Rattle.mh_handle.specs.Grows.{Grows}
 use Rattle.mh_handle.specs.Stands.{HandleView, Stands, handle_body}
-use Rattle.mh_handle.proofs.Erasing.{spliced-map}
-use Rattle.mh_handle.proofs.Standing.{made-reframed, stands-grown}
+use Rattle.mh_handle.proofs.standing.Erasing.{spliced-map}
+use Rattle.mh_handle.proofs.standing.Standing.{made-reframed, stands-grown}
 
 pub drop-stands :
     (table : LeafTable) (h h' : HandleView) (t : Tree) (place : ℕ) (types : List Ty) (u : MethodTy) →

@@ -29,8 +29,8 @@ use Rattle.mh_edit.proofs.Results.{law-FilterReturn}
 use Rattle.mh_handle.specs.Grows.{Grows}
 use Rattle.mh_handle.specs.Parts.{IsPartOf}
 use Rattle.mh_handle.specs.Stands.{HandleView, IsMade, Stands, handle_body}
-use Rattle.mh_handle.proofs.Erasing.{returns-runs}
-use Rattle.mh_handle.proofs.Standing.{suc-positive}
+use Rattle.mh_handle.proofs.standing.Erasing.{returns-runs}
+use Rattle.mh_handle.proofs.standing.Standing.{suc-positive}
 use Rattle.mh_adapt.specs.Parts.{filterret_key}
 use Rattle.mh_adapt.proofs.PartRuns.{last-runs}
 use Rattle.mh_adapt.proofs.Parted.{stands-parted}

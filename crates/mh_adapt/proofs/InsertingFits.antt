@@ -19,8 +19,8 @@ use Rattle.mh_edit.specs.declared.key.Key.TheVariants as key
 use Rattle.mh_edit.specs.Applied.{applied}
 use Rattle.mh_edit.specs.Fit.{fits, is_basic_at, is_same_basic, names_each}
 use Rattle.mh_handle.specs.Stands.{HandleView, HasShape, IsShaped, handle_body}
-use Rattle.mh_handle.proofs.Erasing.{spliced-map}
-use Rattle.mh_handle.proofs.Basics.{same_basic-itself}
+use Rattle.mh_handle.proofs.standing.Erasing.{spliced-map}
+use Rattle.mh_handle.proofs.recipes.Basics.{same_basic-itself}
 
 arity : (h : HandleView) → IsShaped h → length (handle_body h).params ≡ length h.ty.params
 arity h shaped = ap length shaped.params ∙ length-map h.ty.params basic_of

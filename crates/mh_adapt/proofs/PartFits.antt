@@ -18,8 +18,8 @@ use Rattle.mh_form.specs.Erasure.{basic_of, basic_ret_of}
 use Rattle.mh_edit.specs.declared.key.Key.TheVariants as key
 use Rattle.mh_edit.specs.Fit.{fits, is_nothing, is_same_basic, taken_by, takes_result}
 use Rattle.mh_edit.proofs.Places.{length-spliced}
-use Rattle.mh_handle.proofs.Erasing.{spliced-map}
-use Rattle.mh_handle.proofs.Basics.{same_basic-itself}
+use Rattle.mh_handle.proofs.standing.Erasing.{spliced-map}
+use Rattle.mh_handle.proofs.recipes.Basics.{same_basic-itself}
 
 -- a part's result takes the place of as many parameters, erased or not
 pub taken-count : (ret : Option Ty) → taken_by (basic_ret_of ret) ≡ count_of ret

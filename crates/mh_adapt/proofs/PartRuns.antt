@@ -16,7 +16,7 @@ use Rattle.mh_form.specs.Run.{run_bound, run_on}
 use Rattle.mh_form.specs.Slots.{filled, given}
 use Rattle.mh_edit.specs.Law.{returned, slots_of_result}
 use Rattle.mh_handle.specs.Stands.{HandleView, Stands, handle_body, handle_run}
-use Rattle.mh_handle.proofs.Erasing.{part-map, part-then, result-then, spliced-map}
+use Rattle.mh_handle.proofs.standing.Erasing.{part-map, part-then, result-then, spliced-map}
 
 module _ (table : LeafTable) (h g : HandleView) (a b : Tree) (part : Arc Bound Global) (st : Stands table h a) (sp : Stands table g b)
     (body : part.value.body.now ≡ handle_body g) (fields : part.value.fields.items ≡ g.fields) where

@@ -11,7 +11,7 @@ use Rattle.mh_form.specs.Erasure.{basic_of}
 use Rattle.mh_edit.specs.Fit.{is_nothing}
 use Rattle.mh_edit.proofs.Places.{length-spliced}
 use Rattle.mh_handle.specs.Stands.{HandleView, IsShaped, handle_body}
-use Rattle.mh_handle.proofs.Limits.{limited-low}
+use Rattle.mh_handle.proofs.obeying.Limits.{limited-low}
 use Rattle.mh_adapt.specs.Parts.{collect_key, fold_key}
 use Rattle.mh_adapt.proofs.PartAnswers.{IsSuited}
 use Rattle.mh_adapt.proofs.PartFits.{collect-fits, fold-fits, fold-room, gives-room, parted-shape}

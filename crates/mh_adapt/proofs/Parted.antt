@@ -17,7 +17,7 @@ use Rattle.mh_edit.specs.Applied.{applied}
 use Rattle.mh_handle.specs.Grows.{Grows}
 use Rattle.mh_handle.specs.Recipe.{at_type, recipe}
 use Rattle.mh_handle.specs.Stands.{HandleView, IsMade, Stands, handle_body}
-use Rattle.mh_handle.proofs.Standing.{stands-grown}
+use Rattle.mh_handle.proofs.standing.Standing.{stands-grown}
 
 -- a tree of two others, by the row and the key of a combinator with a part
 pub record IsOfTwo (table : LeafTable) (row : MethodTy → ℕ → MethodTy → ℕ → TypeOrRefusal) (key_of : MethodTy → Key) (a b t : Tree) : Type 0 where

@@ -35,7 +35,7 @@ use Rattle.mh_edit.specs.Law.{PermuteLaw}
 use Rattle.mh_edit.proofs.Laws.{law-applied}
 use Rattle.mh_handle.specs.Grows.{Grows}
 use Rattle.mh_handle.specs.Stands.{HandleView, Stands, handle_body}
-use Rattle.mh_handle.proofs.Standing.{made-reframed, stands-grown}
+use Rattle.mh_handle.proofs.standing.Standing.{made-reframed, stands-grown}
 
 -- the arguments that are named, erased, are the slots at the named places
 picked-erased :

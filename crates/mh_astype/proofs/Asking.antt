@@ -20,7 +20,7 @@ use Rattle.mh_handle.specs.declared.work.Work.{Work}
 use Rattle.mh_handle.specs.Recipe.{at_type, convert_keys, recipe}
 use Rattle.mh_handle.specs.Stands.{HandleView, Stands}
 use Rattle.mh_handle.specs.Works.{IsAccepted}
-use Rattle.mh_handle.proofs.Recipes.{recipe-converted}
+use Rattle.mh_handle.proofs.recipes.Recipes.{recipe-converted}
 use Rattle.mh_astype.specs.Use.{IsUse, MakesFrom}
 use Rattle.mh_astype.proofs.Using.{used-stands}
 

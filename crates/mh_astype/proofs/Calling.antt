@@ -27,9 +27,9 @@ use Rattle.mh_handle.specs.Recipe.{are_trivial, convert_keys, recipe}
 use Rattle.mh_handle.specs.Recipe as Rec
 use Rattle.mh_handle.specs.Stands.{HandleView, Stands}
 use Rattle.mh_handle.specs.Converting.{IsUsedAs, convert_fields}
-use Rattle.mh_handle.proofs.Answering.{typed_run-stands, typed_run-well_formed}
-use Rattle.mh_handle.proofs.AsTypeStands.{converted-stands as handle-stands}
-use Rattle.mh_handle.proofs.TrivialConversions.{all-kept, converts-ok, or_throw-ok, run-kept}
+use Rattle.mh_handle.proofs.standing.Answering.{typed_run-stands, typed_run-well_formed}
+use Rattle.mh_handle.proofs.conversions.AsTypeStands.{converted-stands as handle-stands}
+use Rattle.mh_handle.proofs.conversions.TrivialConversions.{all-kept, converts-ok, or_throw-ok, run-kept}
 use Rattle.mh_astype.specs.Calls.{IsRefusal}
 use Rattle.mh_astype.proofs.Using.{trivial, convert_key, keys-changed, keys-kept}
 pub use Rattle.mh_astype.proofs.OwnCalls.{

@@ -24,8 +24,8 @@ use Rattle.mh_edit.specs.Fit.{fits}
 use Rattle.mh_handle.specs.Converting.{convert_fields}
 use Rattle.mh_handle.specs.Recipe.{are_trivial, convert_keys, entries_of, ret_entry_of}
 use Rattle.mh_handle.specs.Stands.{HandleView, HasShape, IsShaped, handle_body}
-use Rattle.mh_handle.proofs.ConvertedParameters.{length-entries, params-converted, params-kept, returning-params}
-use Rattle.mh_handle.proofs.TrivialConversions.{none-converted}
+use Rattle.mh_handle.proofs.conversions.ConvertedParameters.{length-entries, params-converted, params-kept, returning-params}
+use Rattle.mh_handle.proofs.conversions.TrivialConversions.{none-converted}
 
 -- ---- the row
 

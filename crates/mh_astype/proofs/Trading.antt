@@ -12,7 +12,7 @@ use Rattle.mh_handle.specs.declared.handle.Handle.{Handle}
 use Rattle.mh_handle.specs.declared.work.Work.{Work}
 use Rattle.mh_handle.specs.Stands.{HandleView}
 use Rattle.mh_handle.specs.Works.{HoldsTypes, TradesTypes, types_in}
-use Rattle.mh_handle.proofs.HoldOrders.{exchanges-few, exchanges-kept}
+use Rattle.mh_handle.proofs.holding.HoldOrders.{exchanges-few, exchanges-kept}
 use Rattle.mh_astype.specs.Use.{used_types_by}
 
 -- a handle that comes back as it was handed over

@@ -24,8 +24,8 @@ use Rattle.mh_handle.specs.Parts.{PartsView}
 use Rattle.mh_handle.specs.Recipe.{convert_keys}
 use Rattle.mh_handle.specs.Stands.{HandleView, IsShaped, Stands}
 use Rattle.mh_handle.specs.Works.{HoldsTypes, IsUnchanged, Makes, TradesTypes}
-use Rattle.mh_handle.proofs.AsTypeStands.{converted-stands}
-use Rattle.mh_handle.proofs.Refusals.{check-makes}
+use Rattle.mh_handle.proofs.conversions.AsTypeStands.{converted-stands}
+use Rattle.mh_handle.proofs.obeying.Refusals.{check-makes}
 use Rattle.mh_astype.specs.Use.{AddsConversions, AsksNothing, MakesFrom}
 pub use Rattle.mh_astype.proofs.ConvertKeys.{convert-fits, convert-shaped, convert_key, fields-kept, kept-shaped, keys-changed, keys-kept, light, trivial}
 

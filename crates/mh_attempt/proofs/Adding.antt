@@ -11,8 +11,8 @@ use Rattle.mh_handle.specs.declared.error.HandleError.TheVariants.{NoMemory, For
 use Rattle.mh_handle.specs.declared.handle.Handle.{Handle}
 use Rattle.mh_handle.specs.declared.work.Work.{Work}
 use Rattle.mh_handle.specs.Works.{GoesOn, HoldsTypes, IsReady, TradesTypes}
-use Rattle.mh_handle.proofs.HoldOrders.{exchanges-back}
-use Rattle.mh_handle.proofs.SingleHolds.{held-yet}
+use Rattle.mh_handle.proofs.holding.HoldOrders.{exchanges-back}
+use Rattle.mh_handle.proofs.holding.SingleHolds.{held-yet}
 use Rattle.mh_attempt.specs.declared.handle.HandleOperand.{HandleOperand}
 use Rattle.mh_attempt.specs.declared.handle.HandleOperand.TheVariants as operand
 use Rattle.mh_attempt.specs.Registers.{IsHeldIn}

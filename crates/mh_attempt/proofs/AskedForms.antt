@@ -15,7 +15,7 @@ use Rattle.mh_handle.specs.Form.{FormView, most_forms}
 use Rattle.mh_handle.specs.Index.{recipe_of}
 use Rattle.mh_handle.specs.Passes.{PassView, SeatView, AsksFor, Draws, DrawsAtMostOne, IsUnlearnt}
 use Rattle.mh_handle.specs.SameRecipes.{same_recipe}
-use Rattle.mh_handle.proofs.SameRecipes.{same_recipe-decides, same_recipe-equivalence}
+use Rattle.mh_handle.proofs.recipes.SameRecipes.{same_recipe-decides, same_recipe-equivalence}
 use Rattle.mh_attempt.specs.Asked.{asked_recipes, DrawsWithin, HasAsked, HasDrawn, HasNoNumber}
 use Rattle.mh_attempt.proofs.RecipeCounts.{is_one, again, one-more}
 

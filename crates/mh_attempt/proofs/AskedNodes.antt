@@ -13,7 +13,7 @@ use Rattle.mh_handle.specs.Errors.{of_check}
 use Rattle.mh_handle.specs.Passes.{PassView}
 use Rattle.mh_handle.specs.SameRecipes.{same_recipe}
 use Rattle.mh_handle.specs.Works.{Makes}
-use Rattle.mh_handle.proofs.SameRecipes.{same_recipe-decides}
+use Rattle.mh_handle.proofs.recipes.SameRecipes.{same_recipe-decides}
 use Rattle.mh_astype.specs.Use.{AsksNothing, MakesFrom}
 use Rattle.mh_spread.specs.Spreading.{MakesBoth}
 use Rattle.mh_attempt.specs.Asked.{AsksIfMade, HasAskedMore, HasStopped}

@@ -8,7 +8,7 @@ use Rattle.mh_intern.specs.Exchanges.{AreHeld, AreOf, entries_of}
 use Rattle.mh_intern.specs.Held.{has}
 use Rattle.mh_intern.specs.Views.{HoldView, SeatView}
 use Rattle.mh_intern.proofs.HeldLists.{has-append, held-first, held-none, held-second, of-both, of-first, of-second}
-use Rattle.mh_handle.proofs.HoldOrders.{Same}
+use Rattle.mh_handle.proofs.holding.HoldOrders.{Same}
 use Rattle.mh_attempt.specs.declared.registers.Assignment.{Assignment}
 use Rattle.mh_attempt.specs.declared.registers.Held.{Held}
 use Rattle.mh_attempt.specs.Registers.{IsKeptIn, assigned_to, held_under, holds_in, holds_of, is_named}

@@ -13,7 +13,7 @@ use Rattle.mh_handle.specs.declared.handle.Handle.{Handle}
 use Rattle.mh_handle.specs.declared.work.Work.{Work}
 use Rattle.mh_handle.specs.Stands.{Stands}
 use Rattle.mh_handle.specs.Works.{IsAccepted}
-use Rattle.mh_handle.proofs.Going.{unchanged-still}
+use Rattle.mh_handle.proofs.obeying.Going.{unchanged-still}
 use Rattle.mh_script.specs.declared.operand.Register.{Register}
 use Rattle.mh_script.specs.declared.script.End.TheVariants as end
 use Rattle.mh_jobs.specs.Thrown.{OrThrown, ◌>>=◌, ◌>>◌, require}

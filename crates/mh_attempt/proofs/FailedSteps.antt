@@ -10,7 +10,7 @@ use Rattle.mh_handle.specs.declared.handle.Handle.{Handle}
 use Rattle.mh_handle.specs.declared.work.Work.{Work}
 use Rattle.mh_handle.specs.Errors.{of_check}
 use Rattle.mh_handle.specs.Works.{GoesOn}
-use Rattle.mh_handle.proofs.Rooms.{goes_on-none}
+use Rattle.mh_handle.proofs.obeying.Rooms.{goes_on-none}
 use Rattle.mh_script.specs.declared.script.Operation.{Operation}
 use Rattle.mh_script.specs.declared.script.Step.{Step}
 use Rattle.mh_script.specs.declared.script.Step.TheVariants as step

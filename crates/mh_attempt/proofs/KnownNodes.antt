@@ -14,7 +14,7 @@ use Rattle.mh_edit.specs.declared.key.Key.{Key}
 use Rattle.mh_edit.specs.declared.key.Key.TheVariants as key
 use Rattle.mh_handle.specs.Recipe.{recipe}
 use Rattle.mh_handle.specs.SameRecipes.{same_recipe}
-use Rattle.mh_handle.proofs.SameRecipes.{same_recipe-decides}
+use Rattle.mh_handle.proofs.recipes.SameRecipes.{same_recipe-decides}
 use Rattle.mh_jobs.specs.Thrown.{OrThrown, ◌>>=◌}
 use Rattle.mh_jobs.proofs.Parts.{bound-parts}
 use Rattle.mh_script.specs.declared.operand.Register.{Register}

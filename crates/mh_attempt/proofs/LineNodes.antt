@@ -20,7 +20,7 @@ use Rattle.mh_handle.specs.Errors.{of_check}
 use Rattle.mh_handle.specs.Obeys.{Obeys}
 use Rattle.mh_handle.specs.Stands.{HandleView, Stands}
 use Rattle.mh_handle.specs.Works.{IsAccepted, Makes}
-use Rattle.mh_handle.proofs.Going.{unchanged-still}
+use Rattle.mh_handle.proofs.obeying.Going.{unchanged-still}
 use Rattle.mh_jobs.specs.Thrown.{OrThrown, ◌>>=◌}
 use Rattle.mh_attempt.specs.Lines.{MakesNode, typed}
 use Rattle.mh_attempt.specs.Nodes.{TellsNode}

@@ -17,8 +17,8 @@ use Rattle.mh_handle.specs.Obeys.{Obeys}
 use Rattle.mh_handle.specs.Recipe.{recipe}
 use Rattle.mh_handle.specs.Stands.{Stands}
 use Rattle.mh_handle.specs.Works.{GoesOn, IsAccepted, Makes, TradesTypes, types_in}
-use Rattle.mh_handle.proofs.Going.{goes_on-more}
-use Rattle.mh_handle.proofs.Rooms.{goes_on-none}
+use Rattle.mh_handle.proofs.obeying.Going.{goes_on-more}
+use Rattle.mh_handle.proofs.obeying.Rooms.{goes_on-none}
 use Rattle.mh_jobs.specs.Thrown.{OrThrown, ◌>>=◌}
 use Rattle.mh_link.specs.Made.{nodes_of}
 use Rattle.mh_attempt.specs.declared.handle.HandleOperand.{HandleOperand}

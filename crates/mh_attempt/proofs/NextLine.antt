@@ -4,7 +4,7 @@ use Rattle.std.proofs.Common.{sym, subst, ℕ, ◌+◌, ◌*◌, ◌^◌, ◌<�
 use Rattle.mh_leaf.specs.LeafTable.{LeafTable}
 use Rattle.mh_handle.specs.declared.work.Work.{Work}
 use Rattle.mh_handle.specs.Works.{IsReady}
-use Rattle.mh_handle.proofs.Rooms.{ready-after}
+use Rattle.mh_handle.proofs.obeying.Rooms.{ready-after}
 use Rattle.mh_script.specs.declared.script.End.{End}
 use Rattle.mh_script.specs.declared.script.Step.{Step}
 use Rattle.mh_attempt.specs.declared.registers.Registers.{Registers}

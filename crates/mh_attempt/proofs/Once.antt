@@ -11,7 +11,7 @@ use Rattle.mh_handle.specs.declared.work.Work.{Work}
 use Rattle.mh_handle.specs.Form.{FormView}
 use Rattle.mh_handle.specs.Passes.{DrawsAtMostOne, IsUnlearnt, PassView, SeatView, StaysLearnt, learnt_of}
 use Rattle.mh_handle.specs.Works.{GoesOn, IsReady, IsUnchanged, Makes, most_held}
-use Rattle.mh_handle.proofs.Going.{goes_on-still, unchanged-goes_on, seated-back}
+use Rattle.mh_handle.proofs.obeying.Going.{goes_on-still, unchanged-goes_on, seated-back}
 use Rattle.mh_attempt.specs.Several.{DrawsOnce, GoesOnOnce, HasLearnt, IsReadyOnce, LearnsOnce}
 
 -- ---- passes

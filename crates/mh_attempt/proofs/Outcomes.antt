@@ -10,7 +10,7 @@ use Rattle.mh_leaf.specs.LeafTable.{LeafTable}
 use Rattle.mh_handle.specs.declared.work.Work.{Work}
 use Rattle.mh_handle.specs.Recipe.{recipe}
 use Rattle.mh_handle.specs.Works.{IsReady}
-use Rattle.mh_handle.proofs.Rooms.{ready-less}
+use Rattle.mh_handle.proofs.obeying.Rooms.{ready-less}
 use Rattle.mh_script.specs.declared.script.Script.{Script}
 use Rattle.mh_script.specs.declared.script.Step.{Step}
 use Rattle.mh_script.specs.declared.scripts.ScriptId.{ScriptId}

@@ -8,7 +8,7 @@ use Rattle.mh_base.proofs.Tests.{or_false, or_true}
 use Rattle.mh_edit.specs.declared.key.Key.{Key}
 use Rattle.mh_handle.specs.Passes.{PassView}
 use Rattle.mh_handle.specs.SameRecipes.{same_recipe}
-use Rattle.mh_handle.proofs.SameRecipes.{same_recipe-decides, same_recipe-equivalence}
+use Rattle.mh_handle.proofs.recipes.SameRecipes.{same_recipe-decides, same_recipe-equivalence}
 use Rattle.mh_attempt.specs.Asked.{HasDrawn}
 
 -- whether a recipe is one of a list

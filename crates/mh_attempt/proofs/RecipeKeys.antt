@@ -18,7 +18,7 @@ use Rattle.mh_tree.specs.Use.{used_as, used_by, items_used_as, taking_items}
 use Rattle.mh_edit.specs.declared.key.Key.{Key}
 use Rattle.mh_edit.specs.declared.key.Key.TheVariants as key
 use Rattle.mh_handle.specs.Recipe.{are_trivial, at_some, at_type, convert_keys, entries_of, recipe, ret_entry_of}
-use Rattle.mh_handle.proofs.Recipes.{recipe-converted}
+use Rattle.mh_handle.proofs.recipes.Recipes.{recipe-converted}
 use Rattle.mh_link.specs.Made.{beginnings}
 use Rattle.mh_attempt.proofs.RecipeBeginnings.{IsShort, fewer-beginnings, more-beginnings}
 use Rattle.mh_attempt.proofs.RecipeSets.{AreAmong, among-among, each-among, same-among}

@@ -5,7 +5,7 @@ use Rattle.std.proofs.lemmas.Bool.{or_left, or_right, or_cases}
 use Rattle.mh_base.proofs.Tests.{same_tests}
 use Rattle.mh_edit.specs.declared.key.Key.{Key}
 use Rattle.mh_handle.specs.SameRecipes.{same_recipe}
-use Rattle.mh_handle.proofs.SameRecipes.{same_recipe-decides, same_recipe-equivalence}
+use Rattle.mh_handle.proofs.recipes.SameRecipes.{same_recipe-decides, same_recipe-equivalence}
 use Rattle.mh_attempt.proofs.RecipeCounts.{is_one}
 
 -- each recipe of the first list is one of the second

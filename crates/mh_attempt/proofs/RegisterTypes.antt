@@ -6,9 +6,9 @@ use Rattle.mh_intern.specs.Exchanges.{AreHeld, AreOf, Exchanges}
 use Rattle.mh_intern.specs.Views.{HoldView, SeatView}
 use Rattle.mh_intern.proofs.Exchanging.{exchanges-still, exchanges-then}
 use Rattle.mh_intern.proofs.HeldLists.{held-first, held-second, of-both, of-first, of-second}
-use Rattle.mh_handle.proofs.HoldOrders.{Same, exchanges-kept, exchanges-same, same-swapped}
+use Rattle.mh_handle.proofs.holding.HoldOrders.{Same, exchanges-kept, exchanges-same, same-swapped}
 use Rattle.mh_handle.specs.declared.work.Work.{Work}
-use Rattle.mh_handle.proofs.Going.{Seated}
+use Rattle.mh_handle.proofs.obeying.Going.{Seated}
 use Rattle.mh_attempt.specs.declared.registers.Assignment.{Assignment}
 use Rattle.mh_attempt.specs.declared.registers.Held.{Held}
 use Rattle.mh_attempt.specs.Registers.{IsKeptIn, assigned_to, held_under, holds_in, holds_of}

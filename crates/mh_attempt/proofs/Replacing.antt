@@ -6,7 +6,7 @@ use Rattle.mh_intern.proofs.Exchanging.{exchanges-both, exchanges-still, exchang
 use Rattle.mh_intern.proofs.HeldLists.{held-second}
 use Rattle.mh_handle.specs.declared.work.Work.{Work}
 use Rattle.mh_handle.specs.Works.{HoldsTypes}
-use Rattle.mh_handle.proofs.HoldOrders.{exchanges-kept}
+use Rattle.mh_handle.proofs.holding.HoldOrders.{exchanges-kept}
 use Rattle.mh_attempt.specs.Runs.{Replaces}
 use Rattle.mh_attempt.specs.Several.{Adds}
 

@@ -7,7 +7,7 @@ use Rattle.mh_handle.specs.declared.error.HandleError.{HandleError}
 use Rattle.mh_handle.specs.declared.handle.Handle.{Handle}
 use Rattle.mh_handle.specs.declared.work.Work.{Work}
 use Rattle.mh_handle.specs.Works.{GoesOn, IsUnchanged}
-use Rattle.mh_handle.proofs.Going.{goes_on-before, goes_on-more, seated-back}
+use Rattle.mh_handle.proofs.obeying.Going.{goes_on-before, goes_on-more, seated-back}
 use Rattle.mh_script.specs.declared.script.Script.{Script}
 use Rattle.mh_script.specs.declared.script.Step.{Step}
 use Rattle.mh_script.specs.Limits.{CanRun}

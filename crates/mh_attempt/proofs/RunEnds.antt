@@ -6,7 +6,7 @@ use Rattle.mh_handle.specs.declared.error.HandleError.{HandleError}
 use Rattle.mh_handle.specs.declared.handle.Handle.{Handle}
 use Rattle.mh_handle.specs.declared.work.Work.{Work}
 use Rattle.mh_handle.specs.Works.{GoesOn}
-use Rattle.mh_handle.proofs.Rooms.{goes_on-sum}
+use Rattle.mh_handle.proofs.obeying.Rooms.{goes_on-sum}
 use Rattle.mh_script.specs.declared.script.End.{End}
 use Rattle.mh_script.specs.declared.script.Step.{Step}
 use Rattle.mh_attempt.specs.declared.registers.Registers.{Registers}

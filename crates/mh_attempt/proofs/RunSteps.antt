@@ -3,8 +3,8 @@ use denote.Ref.{Bor}
 use Rattle.std.proofs.Common.{◌≡◌, refl, ◌∙◌, subst, ℕ, ◌<◌, ◌^◌, List, [], ◌++◌, Ok, to_z, w64}
 use Rattle.mh_handle.specs.declared.handle.Handle.{Handle}
 use Rattle.mh_handle.specs.declared.work.Work.{Work}
-use Rattle.mh_handle.proofs.Going.{goes_on-before}
-use Rattle.mh_handle.proofs.Rooms.{goes_on-none}
+use Rattle.mh_handle.proofs.obeying.Going.{goes_on-before}
+use Rattle.mh_handle.proofs.obeying.Rooms.{goes_on-none}
 use Rattle.mh_script.specs.declared.script.Operation.{Operation}
 use Rattle.mh_script.specs.declared.script.Step.TheVariants as step
 use Rattle.mh_attempt.specs.declared.registers.Held.TheVariants as held

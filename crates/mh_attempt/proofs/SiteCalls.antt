@@ -15,7 +15,7 @@ use Rattle.mh_form.specs.Erasure.{erased}
 use Rattle.mh_handle.specs.declared.handle.Handle.{Handle}
 use Rattle.mh_handle.specs.Answers.{typed_ran}
 use Rattle.mh_handle.specs.Stands.{Stands, handle_run}
-use Rattle.mh_handle.proofs.Answering.{typed_run-well_formed}
+use Rattle.mh_handle.proofs.standing.Answering.{typed_run-well_formed}
 use Rattle.mh_jobs.specs.declared.job.Job.{Job}
 use Rattle.mh_jobs.specs.Given.{Given}
 use Rattle.mh_jobs.specs.Jobs.{params_at}

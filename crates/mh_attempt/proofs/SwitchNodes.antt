@@ -22,7 +22,7 @@ use Rattle.mh_edit.specs.declared.key.Key.TheVariants as key
 use Rattle.mh_form.specs.Erasure.{shape_of}
 use Rattle.mh_handle.specs.Recipe.{at_type, recipe}
 use Rattle.mh_handle.specs.Stands.{HandleView, Stands}
-use Rattle.mh_handle.proofs.Limits.{limited-low}
+use Rattle.mh_handle.proofs.obeying.Limits.{limited-low}
 use Rattle.mh_more.specs.Several.{StandForCases, own_types, weights_of}
 use Rattle.mh_more.proofs.SwitchAnswers.{unlooked}
 use Rattle.mh_more.proofs.SwitchStands.{cases-typed, cases-weighed}

@@ -24,7 +24,7 @@ use Rattle.mh_form.specs.declared.body.FormBody.{FormBody}
 use Rattle.mh_form.specs.Erasure.{basic_of}
 use Rattle.mh_edit.specs.declared.key.Key.TheVariants as key
 use Rattle.mh_edit.specs.Fit.{ends_with, fits, is_basic_at, is_nothing, is_same_basic}
-use Rattle.mh_handle.proofs.Basics.{same_basic-itself}
+use Rattle.mh_handle.proofs.recipes.Basics.{same_basic-itself}
 
 -- parameters of one type have one basic type
 one_basic : (t : Ty) (types : List Ty) → list_all (λ p. is_same_type p t) types ≡ true → list_all (is_same_basic (basic_of t)) (map basic_of types) ≡ true

@@ -16,7 +16,7 @@ use Rattle.mh_form.specs.Erasure.{basic_of}
 use Rattle.mh_edit.specs.declared.key.Key.TheVariants as key
 use Rattle.mh_edit.specs.Applied.{applied}
 use Rattle.mh_handle.specs.Stands.{HasShape}
-use Rattle.mh_handle.proofs.Erasing.{spliced-map}
+use Rattle.mh_handle.proofs.standing.Erasing.{spliced-map}
 
 map-replicate : {A B : Type 0} (f : A → B) (n : ℕ) (a : A) → map f (replicate n a) ≡ replicate n (f a)
 map-replicate f zero a = refl

@@ -24,7 +24,7 @@ use Rattle.mh_form.specs.Slots.{holds_one, none_as_zero}
 use Rattle.mh_form.proofs.Refines.{refines-is}
 use Rattle.mh_edit.specs.Law.{returned}
 use Rattle.mh_handle.specs.Stands.{HandleView, Stands, handle_run}
-use Rattle.mh_handle.proofs.Erasing.{returned-erased}
+use Rattle.mh_handle.proofs.standing.Erasing.{returned-erased}
 
 -- the first parameters are no more than all
 pub first-few : (types front : List Ty) → begins_with_types types front ≡ true → length front ≤ length (map basic_of types)

@@ -24,7 +24,7 @@ use Rattle.mh_handle.specs.declared.work.Work.{Work}
 use Rattle.mh_handle.specs.Recipe.{at_type, recipe}
 use Rattle.mh_handle.specs.Stands.{IsShaped, Stands}
 use Rattle.mh_handle.specs.Works.{Makes}
-use Rattle.mh_handle.proofs.Limits.{limited-low}
+use Rattle.mh_handle.proofs.obeying.Limits.{limited-low}
 use Rattle.mh_branch.specs.declared.growths.Caught.{Caught}
 use Rattle.mh_branch.specs.Growths.{AreCatchParts, HasHandler, catch_key}
 use Rattle.mh_branch.proofs.CatchStands.{catch-fits, catch-stands, handler-few}

@@ -46,7 +46,7 @@ use Rattle.mh_handle.specs.Grows.{Grows, base_handle}
 use Rattle.mh_handle.specs.Parts.{IsPartOf}
 use Rattle.mh_handle.specs.Recipe.{at_type, recipe}
 use Rattle.mh_handle.specs.Stands.{HandleView, Stands, handle_run}
-use Rattle.mh_handle.proofs.Erasing.{returned-erased}
+use Rattle.mh_handle.proofs.standing.Erasing.{returned-erased}
 use Rattle.mh_branch.proofs.Computing.{guarded-erased}
 use Rattle.mh_branch.proofs.Rooted.{part-runs, stands-rooted}
 use Rattle.mh_branch.proofs.Branching.{first-few}

@@ -15,7 +15,7 @@ use Rattle.mh_form.specs.declared.slot.Slot.{Slot}
 use Rattle.mh_form.specs.Erasure.{erased_option, erased_ran}
 use Rattle.mh_form.specs.Slots.{filled, none_as_zero}
 use Rattle.mh_form.proofs.Refines.{refines-after}
-use Rattle.mh_handle.proofs.Erasing.{erased-after, raised-low}
+use Rattle.mh_handle.proofs.standing.Erasing.{erased-after, raised-low}
 
 pub refines-erased-after : (calls : List LeafCall) (r : Done) (s : Ran (Option Slot)) → Refines (erased_ran r) s →
     Refines (erased_ran (after calls r)) (after calls s)

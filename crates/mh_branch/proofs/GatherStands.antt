@@ -37,8 +37,8 @@ use Rattle.mh_edit.proofs.Places.{length-spliced}
 use Rattle.mh_handle.specs.Grows.{Grows}
 use Rattle.mh_handle.specs.Recipe.{at_some, recipe}
 use Rattle.mh_handle.specs.Stands.{HandleView, Stands, handle_body}
-use Rattle.mh_handle.proofs.Erasing.{part-map, returns-runs, spliced-map}
-use Rattle.mh_handle.proofs.Standing.{stands-grown}
+use Rattle.mh_handle.proofs.standing.Erasing.{part-map, returns-runs, spliced-map}
+use Rattle.mh_handle.proofs.standing.Standing.{stands-grown}
 use Rattle.mh_branch.proofs.ArrayShapes.{gather-shaped}
 use Rattle.mh_branch.proofs.Rooted.{made-named}
 use Rattle.mh_branch.proofs.GatheredArrays.{array-erased, array-then}

@@ -23,7 +23,7 @@ use Rattle.mh_handle.specs.declared.work.Work.{Work}
 use Rattle.mh_handle.specs.Recipe.{at_type, recipe}
 use Rattle.mh_handle.specs.Stands.{IsShaped, Stands}
 use Rattle.mh_handle.specs.Works.{Makes}
-use Rattle.mh_handle.proofs.Limits.{limited-low}
+use Rattle.mh_handle.proofs.obeying.Limits.{limited-low}
 use Rattle.mh_branch.specs.declared.growths.Branches.{Branches}
 use Rattle.mh_branch.specs.Growths.{AreGuardParts, HasBranches, guard_key}
 use Rattle.mh_branch.proofs.Branching.{first-few}

@@ -18,8 +18,8 @@ use Rattle.mh_form.proofs.Refines.{refined}
 use Rattle.mh_handle.specs.Parts.{IsPartOf}
 use Rattle.mh_handle.specs.Recipe.{recipe}
 use Rattle.mh_handle.specs.Stands.{HandleView, IsMade, Stands, handle_body, handle_run}
-use Rattle.mh_handle.proofs.Erasing.{returns-runs}
-use Rattle.mh_handle.proofs.Standing.{suc-positive}
+use Rattle.mh_handle.proofs.standing.Erasing.{returns-runs}
+use Rattle.mh_handle.proofs.standing.Standing.{suc-positive}
 
 -- a body with a name does something
 pub made-named : (body : FormBody) (x : Name) (xs : List Name) → body.names ≡ x ∷ xs → IsMade body

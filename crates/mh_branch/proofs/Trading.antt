@@ -12,8 +12,8 @@ use Rattle.mh_handle.specs.declared.error.HandleError.TheVariants.{NoMemory, For
 use Rattle.mh_handle.specs.declared.handle.Handle.{Handle}
 use Rattle.mh_handle.specs.declared.work.Work.{Work}
 use Rattle.mh_handle.specs.Works.{IsAccepted, IsReady, IsUnchanged, TradesTypes}
-use Rattle.mh_handle.proofs.Going.{seated-still, unchanged-ready}
-use Rattle.mh_handle.proofs.HoldOrders.{exchanges-few}
+use Rattle.mh_handle.proofs.obeying.Going.{seated-still, unchanged-ready}
+use Rattle.mh_handle.proofs.holding.HoldOrders.{exchanges-few}
 
 -- ---- parts
 

@@ -40,8 +40,8 @@ use Rattle.mh_edit.proofs.RootLaws.{law-ConcatRoot}
 use Rattle.mh_handle.specs.declared.error.HandleError.{HandleError}
 use Rattle.mh_handle.specs.Grows.{Grows, base_handle}
 use Rattle.mh_handle.specs.Stands.{HandleView, Stands}
-use Rattle.mh_handle.proofs.Erasing.{returns-runs, returned-erased}
-use Rattle.mh_handle.proofs.Standing.{stands-rooted}
+use Rattle.mh_handle.proofs.standing.Erasing.{returns-runs, returned-erased}
+use Rattle.mh_handle.proofs.standing.Standing.{stands-rooted}
 
 -- a text, or the exception of one that is too long, is a slot or an exception
 text-given : (b : Bool) (v : Value) (e : Exc) →

@@ -4,7 +4,7 @@ use Rattle.std.proofs.lemmas.Bool.{false_from_ne_true}
 use mathlib.Core.Logic.{◌↔◌}
 use Rattle.mh_edit.specs.declared.key.Key.{Key}
 use Rattle.mh_handle.specs.SameRecipes.{same_recipe}
-use Rattle.mh_handle.proofs.SameRecipes.{same_recipe-decides}
+use Rattle.mh_handle.proofs.recipes.SameRecipes.{same_recipe-decides}
 
 -- the two truth values differ
 abbrev is_false : Bool → Type 0

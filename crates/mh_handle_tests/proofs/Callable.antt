@@ -12,7 +12,7 @@ use Rattle.mh_form.specs.Run.{run_on}
 use Rattle.mh_handle.specs.Answers.{typed_ran}
 use Rattle.mh_handle.specs.Form.{FormView, body_of}
 use Rattle.mh_handle.specs.Stands.{HandleView, StandsForSome, handle_run}
-use Rattle.mh_handle.proofs.Answering.{typed_run-well_formed}
+use Rattle.mh_handle.proofs.standing.Answering.{typed_run-well_formed}
 
 module _ (table : LeafTable) (h : HandleView) (args : List Value) (some : StandsForSome table h) (have : HaveTypes table.classes args h.ty.params) where
   -- by itself

@@ -3,7 +3,7 @@ use denote.Ref.{NamedLft}
 use denote.Param.Send.{IsSend, sendable}
 use Rattle.std.proofs.Crossing.{crosses}
 use Rattle.mh_base.proofs.seq.Seq.TheSendSync as seq
-use Rattle.mh_handle.proofs.Crossing.{pass_send}
+use Rattle.mh_handle.proofs.passes.Crossing.{pass_send}
 use Rattle.mh_handle_tests.specs.contracts.racing.Lane as Lane
 use Rattle.mh_handle_tests.proofs.racing.Edited.TheSendSync as edited
 use Rattle.mh_handle_tests.specs.contracts.racing.Edited as Edited

@@ -28,7 +28,7 @@ use Rattle.mh_form.specs.Erasure.{basic_ret_of, erased, erased_option, erased_ra
 use Rattle.mh_form.specs.Slots.{bounded_slot, default_slots, filled, given, none_as_zero}
 use Rattle.mh_form.proofs.Computations.{mapped-after}
 use Rattle.mh_edit.specs.Law.{result_as, returned}
-use Rattle.mh_handle.proofs.Erasing.{raised-low, returned-erased}
+use Rattle.mh_handle.proofs.standing.Erasing.{raised-low, returned-erased}
 use Rattle.mh_branch.proofs.Computing.{and_then-erased, refines-erased-after}
 
 -- ---- slots as results

@@ -9,7 +9,7 @@ use Rattle.mh_form.specs.declared.field.Field.{Field}
 use Rattle.mh_handle.specs.Parts.{AddsHandle, IsPartOf, PartsView, held_by, no_parts}
 use Rattle.mh_handle.specs.Stands.{HandleView}
 use Rattle.mh_handle.specs.declared.work.Work.{Work}
-use Rattle.mh_handle.proofs.HoldOrders.{exchanges-kept, exchanges-same, same-swapped}
+use Rattle.mh_handle.proofs.holding.HoldOrders.{exchanges-kept, exchanges-same, same-swapped}
 use Rattle.mh_branch.specs.Growths.{TradesParts}
 use Rattle.mh_more.specs.Several.{AddsAll, ArePartsOf, holds_of, types_held_by}
 

@@ -32,7 +32,7 @@ use Rattle.mh_handle.specs.Grows.{Grows, base_handle}
 use Rattle.mh_handle.specs.Recipe.{at_type, recipe, switch_key}
 use Rattle.mh_handle.specs.Stands.{HandleView, IsShaped, Stands}
 use Rattle.mh_handle.specs.Works.{Makes}
-use Rattle.mh_handle.proofs.Limits.{limited-low}
+use Rattle.mh_handle.proofs.obeying.Limits.{limited-low}
 use Rattle.mh_more.specs.declared.several.Root.{Root}
 use Rattle.mh_more.specs.Roots.{CanRoot, IsRoot, RootsParts}
 use Rattle.mh_more.specs.Several.{AreAllShaped, ArePartsOf, HasParts, StandForCases, holds_of, own_types, types_held_by, weights_of}

@@ -45,7 +45,7 @@ use Rattle.mh_handle.specs.Grows.{Grows, base_handle}
 use Rattle.mh_handle.specs.Parts.{IsPartOf}
 use Rattle.mh_handle.specs.Recipe.{at_type, recipe, switch_key}
 use Rattle.mh_handle.specs.Stands.{HandleView, Stands}
-use Rattle.mh_handle.proofs.Erasing.{returned-erased}
+use Rattle.mh_handle.proofs.standing.Erasing.{returned-erased}
 use Rattle.mh_branch.proofs.Rooted.{part-runs, stands-rooted}
 use Rattle.mh_more.specs.Several.{ArePartsOf, StandForCases, own_types, types_held_by, weights_of}
 

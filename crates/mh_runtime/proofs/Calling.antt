@@ -13,7 +13,7 @@ use Rattle.mh_handle.specs.declared.work.Work.{Work}
 use Rattle.mh_handle.specs.Passes.{PassView}
 use Rattle.mh_handle.specs.Recipe.{recipe}
 use Rattle.mh_handle.specs.Stands.{HandleView, Stands}
-use Rattle.mh_handle.proofs.SameRecipes.{same_recipe-equivalence}
+use Rattle.mh_handle.proofs.recipes.SameRecipes.{same_recipe-equivalence}
 use Rattle.mh_astype.specs.Calls.{AsksBy, call_keys}
 use Rattle.mh_attempt.specs.declared.error.WorkError.{WorkError}
 use Rattle.mh_attempt.specs.declared.error.WorkError.TheVariants.{NoMemory, FormsFull, TypesFull}

@@ -8,7 +8,7 @@ use Rattle.std.proofs.Crossing.{crosses}
 use Rattle.mh_cells.proofs.cells.Cells.TheSendSync as cells
 use Rattle.mh_cells.proofs.known.Known.TheSendSync as known
 use Rattle.mh_tickets.proofs.seat.TicketSeat.TheSendSync as seat
-use Rattle.mh_handle.proofs.Crossing.{answer_send, table_sync, pass_send as form_pass_send}
+use Rattle.mh_handle.proofs.passes.Crossing.{answer_send, table_sync, pass_send as form_pass_send}
 use Rattle.mh_intern.proofs.seat.TypeSeat.TheSendSync as types
 use Rattle.mh_intern.proofs.table.TypeTable.TheSendSync as type_table
 use Rattle.mh_leaves.proofs.leaves.Leaves.TheSendSync as leaves

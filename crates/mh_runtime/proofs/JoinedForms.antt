@@ -9,7 +9,7 @@ use Rattle.mh_handle.specs.Index.{recipe_of}
 use Rattle.mh_handle.specs.Joins.{KnowsBoth, unasked}
 use Rattle.mh_handle.specs.Passes.{PassView}
 use Rattle.mh_handle.specs.SameRecipes.{same_recipe}
-use Rattle.mh_handle.proofs.SameRecipes.{same_recipe-decides, same_recipe-equivalence}
+use Rattle.mh_handle.proofs.recipes.SameRecipes.{same_recipe-decides, same_recipe-equivalence}
 use Rattle.mh_jobs.specs.Given.{Given}
 use Rattle.mh_attempt.specs.Asked.{HasAsked, asked_recipes}
 use Rattle.mh_attempt.proofs.RecipeSets.{AreAmong, among-among, among-first, among-last, among-same, both-among, each-among}

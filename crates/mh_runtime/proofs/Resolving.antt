@@ -4,7 +4,7 @@ use denote.Ref.{Bor}
 use Rattle.std.specs.Prelude.{IfOk, IsErrAnd, OnErr}
 use Rattle.mh_tickets.specs.Seats.{SeatView}
 use Rattle.mh_handle.specs.declared.work.Work.{Work}
-use Rattle.mh_handle.proofs.Going.{goes_on-more, goes_on-still}
+use Rattle.mh_handle.proofs.obeying.Going.{goes_on-more, goes_on-still}
 use Rattle.mh_jobs.specs.Given.{Given}
 use Rattle.mh_attempt.specs.declared.error.WorkError.{WorkError}
 use Rattle.mh_attempt.specs.Linkage.{LinkageView}

@@ -3,7 +3,7 @@ use Rattle.std.proofs.Common.{◌≡◌, sym, ◌∙◌, ap, subst, ℕ, ◌+◌
 use Rattle.std.proofs.lemmas.List.{take_more, take-append-drop}
 use Rattle.mh_handle.specs.declared.work.Work.{Work}
 use Rattle.mh_handle.specs.Works.{GoesOn, IsReady}
-use Rattle.mh_handle.proofs.Going.{goes_on-both, goes_on-more}
+use Rattle.mh_handle.proofs.obeying.Going.{goes_on-both, goes_on-more}
 use Rattle.mh_plan.specs.declared.call.Call.{Call}
 use Rattle.mh_plan.specs.Limits.{calls_in}
 use Rattle.mh_runtime.specs.Asking.{call_draws, thread_draws}

@@ -32,8 +32,8 @@ use Rattle.mh_handle.specs.declared.work.Work.{Work}
 use Rattle.mh_handle.specs.Recipe.{at_some, recipe}
 use Rattle.mh_handle.specs.Stands.{HandleView, HasShape, IsShaped, Stands, handle_body}
 use Rattle.mh_handle.specs.Works.{IsAccepted, Makes}
-use Rattle.mh_handle.proofs.Limits.{limited-low}
-use Rattle.mh_handle.proofs.Obeying.{grown-obeys}
+use Rattle.mh_handle.proofs.obeying.Limits.{limited-low}
+use Rattle.mh_handle.proofs.obeying.Obeying.{grown-obeys}
 use Rattle.mh_astype.specs.Use.{IsUse, MakesFrom}
 use Rattle.mh_spread.specs.declared.spreading.Spreading.{Spreading}
 use Rattle.mh_spread.specs.Spreading.{IsSpreading, MakesSpread, spread_keys}

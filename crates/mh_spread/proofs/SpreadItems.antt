@@ -14,7 +14,7 @@ use Rattle.mh_tree.proofs.SoundSpread.{Spreads}
 use Rattle.mh_form.specs.declared.slot.Slot.{Slot}
 use Rattle.mh_form.specs.Erasure.{erased, erased_ran}
 use Rattle.mh_form.specs.Slots.{spread_slots}
-use Rattle.mh_handle.proofs.Erasing.{erased-after, raised-low}
+use Rattle.mh_handle.proofs.standing.Erasing.{erased-after, raised-low}
 
 -- what an array of a type is spread to, erased
 pub spread-erased : (classes : List Class) (c : Comp) (count : ℕ) (v : Value) → has_type classes v (ty.Array c) ≡ true →

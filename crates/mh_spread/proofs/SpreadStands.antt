@@ -39,8 +39,8 @@ use Rattle.mh_edit.proofs.Places.{length-spliced}
 use Rattle.mh_handle.specs.Grows.{Grows}
 use Rattle.mh_handle.specs.Recipe.{at_some, recipe}
 use Rattle.mh_handle.specs.Stands.{HandleView, Stands, handle_body}
-use Rattle.mh_handle.proofs.Erasing.{returns-runs, spliced-map}
-use Rattle.mh_handle.proofs.Standing.{stands-grown}
+use Rattle.mh_handle.proofs.standing.Erasing.{returns-runs, spliced-map}
+use Rattle.mh_handle.proofs.standing.Standing.{stands-grown}
 use Rattle.mh_branch.proofs.ArrayShapes.{spread-shaped}
 use Rattle.mh_spread.proofs.SpreadItems.{items-then, spread-erased}
 use Rattle.mh_branch.proofs.Rooted.{made-named}

@@ -12,9 +12,9 @@ use Rattle.mh_handle.specs.declared.handle.Handle.{Handle}
 use Rattle.mh_handle.specs.declared.work.Work.{Work}
 use Rattle.mh_handle.specs.Stands.{HandleView, IsShaped}
 use Rattle.mh_handle.specs.Works.{TradesTypes}
-use Rattle.mh_handle.proofs.Going.{Seated, seated-came}
-use Rattle.mh_handle.proofs.HoldOrders.{exchanges-back, exchanges-same, same-swapped}
-use Rattle.mh_handle.proofs.SingleHolds.{held-swapped, held-yet}
+use Rattle.mh_handle.proofs.obeying.Going.{Seated, seated-came}
+use Rattle.mh_handle.proofs.holding.HoldOrders.{exchanges-back, exchanges-same, same-swapped}
+use Rattle.mh_handle.proofs.holding.SingleHolds.{held-swapped, held-yet}
 use Rattle.mh_steps.specs.AnyTypes.{ExchangesAny, TradesAny}
 
 -- ---- single calls

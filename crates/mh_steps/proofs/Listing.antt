@@ -10,7 +10,7 @@ use Rattle.mh_handle.specs.declared.handle.Handle.{Handle}
 use Rattle.mh_handle.specs.declared.work.Work.{Work}
 use Rattle.mh_handle.specs.Stands.{HandleView, StandsForSome}
 use Rattle.mh_handle.specs.Works.{IsUnchanged, GoesOn}
-use Rattle.mh_handle.proofs.Going.{goes_on-before, seated-back}
+use Rattle.mh_handle.proofs.obeying.Going.{goes_on-before, seated-back}
 use Rattle.mh_more.specs.Several.{holds_of}
 use Rattle.mh_steps.specs.AnyTypes.{ExchangesAny, TradesAnyAll}
 use Rattle.mh_steps.specs.SomeCases.{StandForSome}

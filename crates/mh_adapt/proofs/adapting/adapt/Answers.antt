@@ -1,7 +1,7 @@
 use Rattle.std.proofs.Common.{sym, ap, ◌∙◌, [], ◌∷◌, arith, Ok}
 use Rattle.mh_tree.specs.declared.error.CheckError.TheVariants as check
 use Rattle.mh_tree.specs.Adapters.{adapter_tree}
-use Rattle.mh_handle.proofs.Trading.{trades-checked}
+use Rattle.mh_handle.proofs.holding.Trading.{trades-checked}
 use Rattle.mh_adapt.specs.Parts.{adapter_fields, adapter_key}
 use Rattle.mh_adapt.proofs.Adapters.{adapter-light, adapter-makes, adapter-stands, adapter-suited}
 use Rattle.mh_adapt.proofs.NodeAnswers.{node-gains, node-stands}

@@ -1,7 +1,7 @@
 use Rattle.mh_tree.specs.Adapters.{adapter_row}
 use Rattle.mh_handle.specs.Works.{types_in}
-use Rattle.mh_handle.proofs.Obeying.{given-obeys}
-use Rattle.mh_handle.proofs.Trading.{trades-checked, trades-row}
+use Rattle.mh_handle.proofs.obeying.Obeying.{given-obeys}
+use Rattle.mh_handle.proofs.holding.Trading.{trades-checked, trades-row}
 use Rattle.mh_adapt.proofs.adapting.check_and_adapt.Goals as goal
 
 pub returns-in-Ok-clause-obeys : goal.returns-in-Ok-clause-obeys

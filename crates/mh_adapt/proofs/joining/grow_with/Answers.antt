@@ -1,8 +1,8 @@
 use Rattle.std.proofs.Common.{◌∷◌, ◌++◌, []}
 use Rattle.mh_intern.proofs.HeldLists.{held-second}
-use Rattle.mh_handle.proofs.Going.{goes_on-after, makes-after, seated-still}
-use Rattle.mh_handle.proofs.HoldOrders.{exchanges-few}
-use Rattle.mh_handle.proofs.BackwardHolds.{exchanges-backwards, first-yet}
+use Rattle.mh_handle.proofs.obeying.Going.{goes_on-after, makes-after, seated-still}
+use Rattle.mh_handle.proofs.holding.HoldOrders.{exchanges-few}
+use Rattle.mh_handle.proofs.holding.BackwardHolds.{exchanges-backwards, first-yet}
 use Rattle.mh_adapt.proofs.Added.{part-grows}
 use Rattle.mh_adapt.proofs.joining.grow_with.Goals as goal
 

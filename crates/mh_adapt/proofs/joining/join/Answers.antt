@@ -1,6 +1,6 @@
 use Rattle.std.proofs.Common.{sym, ap, ◌∙◌, [], ◌∷◌, ◌++◌, arith, Ok}
 use Rattle.mh_tree.specs.declared.error.CheckError.TheVariants as check
-use Rattle.mh_handle.proofs.Trading.{trades-checked}
+use Rattle.mh_handle.proofs.holding.Trading.{trades-checked}
 use Rattle.mh_tree.specs.Joints.{joint_tree}
 use Rattle.mh_adapt.specs.Parts.{joint_key}
 use Rattle.mh_adapt.proofs.Joints.{joint-light, joint-makes, joint-stands, joint-suited}

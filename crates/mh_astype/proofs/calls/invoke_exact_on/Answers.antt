@@ -6,7 +6,7 @@ use Rattle.mh_tree.specs.Rows.{mismatch}
 use Rattle.mh_values.specs.declared.value.Outcome.TheVariants.{Throw}
 use Rattle.mh_handle.specs.declared.answer.Ended.{Ended}
 use Rattle.mh_handle.specs.Answers.{answer_in}
-use Rattle.mh_handle.proofs.Answering.{typed_run-well_formed}
+use Rattle.mh_handle.proofs.standing.Answering.{typed_run-well_formed}
 use Rattle.mh_astype.proofs.Asking.{differs}
 use Rattle.mh_astype.proofs.Calling.{exact-differs, exact_keys-differs, own-typed, thrown-answer, types-are}
 use Rattle.mh_astype.proofs.calls.invoke_exact_on.Goals as goal

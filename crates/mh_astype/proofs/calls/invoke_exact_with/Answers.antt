@@ -3,7 +3,7 @@ use Rattle.mh_values.specs.declared.class.Class.{Class}
 use Rattle.mh_values.specs.declared.types.MethodTy.{MethodTy}
 use Rattle.mh_values.specs.Same.{is_same_method_type}
 use Rattle.mh_tree.specs.Rows.{mismatch}
-use Rattle.mh_handle.proofs.Answering.{typed_run-well_formed}
+use Rattle.mh_handle.proofs.standing.Answering.{typed_run-well_formed}
 use Rattle.mh_astype.proofs.Asking.{differs}
 use Rattle.mh_astype.proofs.Calling.{exact-differs, exact_keys-differs, own-typed, thrown-answer, types-are}
 use Rattle.mh_astype.proofs.calls.invoke_exact_with.Goals as goal

@@ -2,7 +2,7 @@ use Rattle.std.proofs.Common.{◌≡◌, ap, refl, true, false, Err, List}
 use Rattle.mh_values.specs.declared.class.Class.{Class}
 use Rattle.mh_values.specs.Same.{is_same_method_type}
 use Rattle.mh_tree.specs.Rows.{astype_row}
-use Rattle.mh_handle.proofs.Answering.{typed_run-well_formed}
+use Rattle.mh_handle.proofs.standing.Answering.{typed_run-well_formed}
 use Rattle.mh_astype.proofs.Asking.{differs}
 use Rattle.mh_astype.proofs.Calling.{generic-refused, generic_keys-refused, own-typed, refusal-is, thrown-answer, types-are}
 use Rattle.mh_astype.proofs.Editing.{asks-none, asks-no_form}

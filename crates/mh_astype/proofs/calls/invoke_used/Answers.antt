@@ -1,5 +1,5 @@
 use Rattle.std.proofs.Common.{◌≡◌, true}
-use Rattle.mh_handle.proofs.Answering.{typed_run-well_formed}
+use Rattle.mh_handle.proofs.standing.Answering.{typed_run-well_formed}
 use Rattle.mh_astype.proofs.Calling.{answer-one, kept-is, kept-keys, kept-mean, kept-typed}
 use Rattle.mh_astype.proofs.Using.{trivial}
 use Rattle.mh_astype.proofs.calls.invoke_used.Goals as goal

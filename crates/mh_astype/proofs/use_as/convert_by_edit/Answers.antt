@@ -6,7 +6,7 @@ use Rattle.mh_edit.specs.Applied.{applied}
 use Rattle.mh_edit.specs.Fit.{fits}
 use Rattle.mh_handle.specs.Recipe.{ret_entry_of}
 use Rattle.mh_handle.specs.Stands.{HasShape, handle_body}
-use Rattle.mh_handle.proofs.Trading.{trades-checked}
+use Rattle.mh_handle.proofs.holding.Trading.{trades-checked}
 use Rattle.mh_astype.proofs.Using.{convert-fits, convert-shaped, light, makes-changed, used-few, used-grown, used-held, used-trades}
 use Rattle.mh_astype.proofs.use_as.convert_by_edit.Goals as goal
 

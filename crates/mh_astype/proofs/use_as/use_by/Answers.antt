@@ -1,9 +1,9 @@
 use Rattle.std.proofs.Common.{◌≡◌, sym, subst, ◌∙◌, false, Err, inl}
 use Rattle.mh_values.specs.Same.{is_same_method_type}
 use Rattle.mh_tree.specs.Check.{TellsRow}
-use Rattle.mh_handle.proofs.Going.{unchanged-still}
-use Rattle.mh_handle.proofs.Refusals.{check-obeys}
-use Rattle.mh_handle.proofs.Trading.{trades-checked}
+use Rattle.mh_handle.proofs.obeying.Going.{unchanged-still}
+use Rattle.mh_handle.proofs.obeying.Refusals.{check-obeys}
+use Rattle.mh_handle.proofs.holding.Trading.{trades-checked}
 use Rattle.mh_astype.proofs.Asking.{asked-stands, differs, found-row, row-of-other, same-recipe, trees-make, use-other, use-same, used-makes, used-obeys}
 use Rattle.mh_astype.proofs.Calling.{types-are}
 use Rattle.mh_astype.proofs.Trading.{trades-kept, trades-used}

@@ -4,8 +4,8 @@ use Rattle.mh_tree.specs.Tree as tree
 use Rattle.mh_handle.specs.Recipe.{recipe}
 use Rattle.mh_handle.specs.Stands.{Stands}
 use Rattle.mh_handle.specs.Works.{Makes, TradesTypes, types_in}
-use Rattle.mh_handle.proofs.Going.{goes_on-more}
-use Rattle.mh_handle.proofs.Rooms.{goes_on-none, ready-less}
+use Rattle.mh_handle.proofs.obeying.Going.{goes_on-more}
+use Rattle.mh_handle.proofs.obeying.Rooms.{goes_on-none, ready-less}
 use Rattle.mh_link.specs.Concatenation.{pieces_given}
 use Rattle.mh_link.specs.Made.{concat_nodes, types_of}
 use Rattle.mh_link.proofs.Concatenations.{given-joined}

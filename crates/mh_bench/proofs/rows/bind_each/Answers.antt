@@ -1,5 +1,5 @@
 use Rattle.std.proofs.Common.{[], ◌+◌, ◌-◌, arith}
-use Rattle.mh_handle.proofs.Rooms.{ready-less}
+use Rattle.mh_handle.proofs.obeying.Rooms.{ready-less}
 use Rattle.mh_steps.proofs.Adding.{adds-held, adds-next, adds-yet}
 use Rattle.mh_bench.proofs.Turns.{bound-adds, ready-next, unbound-adds}
 use Rattle.mh_bench.proofs.rows.bind_each.Goals as goal

@@ -1,6 +1,6 @@
 use Rattle.std.proofs.Common.{sym, ap, ◌∙◌, [], ◌∷◌, Ok}
 use Rattle.mh_tree.specs.declared.error.CheckError.TheVariants as check
-use Rattle.mh_handle.proofs.Trading.{trades-checked}
+use Rattle.mh_handle.proofs.holding.Trading.{trades-checked}
 use Rattle.mh_branch.proofs.ArrayAnswers.{gather-answers, gather-fits-by, gather-gains, gather-makes, gather-shaped-by}
 use Rattle.mh_branch.proofs.arrays.gather_of.Goals as goal
 

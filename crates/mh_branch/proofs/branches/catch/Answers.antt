@@ -1,8 +1,8 @@
 use Rattle.std.proofs.Common.{◌++◌}
 use Rattle.mh_tree.specs.Rows.{catch_row}
 use Rattle.mh_handle.specs.Works.{types_in}
-use Rattle.mh_handle.proofs.Obeying.{given-obeys}
-use Rattle.mh_handle.proofs.Trading.{trades-checked, trades-row}
+use Rattle.mh_handle.proofs.obeying.Obeying.{given-obeys}
+use Rattle.mh_handle.proofs.holding.Trading.{trades-checked, trades-row}
 use Rattle.mh_branch.proofs.branches.catch.Goals as goal
 
 pub returns-in-Ok-clause-obeys : goal.returns-in-Ok-clause-obeys

@@ -2,8 +2,8 @@ use Rattle.std.proofs.Common.{◌∷◌, ◌++◌, []}
 use Rattle.mh_tree.specs.declared.error.CheckError.TheVariants as check
 use Rattle.mh_tree.specs.Tree as tree
 use Rattle.mh_handle.specs.Recipe.{recipe}
-use Rattle.mh_handle.proofs.Going.{goes_on-after, makes-after, seated-still}
-use Rattle.mh_handle.proofs.Trading.{trades-checked}
+use Rattle.mh_handle.proofs.obeying.Going.{goes_on-after, makes-after, seated-still}
+use Rattle.mh_handle.proofs.holding.Trading.{trades-checked}
 use Rattle.mh_branch.proofs.CatchAnswers.{catch-answers, catch-few, catch-fits-by, catch-gains, catch-held, catch-light, catch-makes, catch-some}
 use Rattle.mh_branch.proofs.Trading.{held-same, ready-still, trades-parts, trades-short}
 use Rattle.mh_branch.proofs.branches.catch_of.Goals as goal

@@ -2,8 +2,8 @@ use Rattle.std.proofs.Common.{[], sym, subst}
 use Rattle.mh_intern.specs.Exchanges.{AreHeld, Exchanges}
 use Rattle.mh_intern.proofs.HeldLists.{held-first}
 use Rattle.mh_handle.specs.Parts.{PartsView}
-use Rattle.mh_handle.proofs.HoldOrders.{exchanges-back}
-use Rattle.mh_handle.proofs.BackwardHolds.{second-yet}
+use Rattle.mh_handle.proofs.holding.HoldOrders.{exchanges-back}
+use Rattle.mh_handle.proofs.holding.BackwardHolds.{second-yet}
 use Rattle.mh_branch.proofs.growths.with_handler.Goals as goal
 
 pub give_back-requires-clause-held : goal.give_back-requires-clause-held

@@ -2,7 +2,7 @@ use Rattle.std.proofs.Common.{[], sym, subst}
 use Rattle.mh_intern.specs.Exchanges.{AreHeld, Exchanges}
 use Rattle.mh_intern.proofs.HeldLists.{held-second}
 use Rattle.mh_handle.specs.Parts.{PartsView}
-use Rattle.mh_handle.proofs.BackwardHolds.{exchanges-backwards, first-yet}
+use Rattle.mh_handle.proofs.holding.BackwardHolds.{exchanges-backwards, first-yet}
 use Rattle.mh_branch.proofs.growths.with_part.Goals as goal
 
 pub push-requires-clause-held : goal.push-requires-clause-held

@@ -3,7 +3,7 @@ use Rattle.mh_convert.specs.Conversion.{fit}
 use Rattle.mh_tree.specs.Rows.{constant_row}
 use Rattle.mh_handle.specs.Parts.{PartsView}
 use Rattle.mh_handle.specs.Works.{TradesTypes}
-use Rattle.mh_handle.proofs.Trading.{trades-row}
+use Rattle.mh_handle.proofs.holding.Trading.{trades-row}
 use Rattle.mh_branch.proofs.RootAnswers.{constant-answers}
 use Rattle.mh_branch.proofs.roots.constant.Goals as goal
 

@@ -2,7 +2,7 @@ use Rattle.std.proofs.Common.{subst, ap, [], ◌∷◌}
 use Rattle.mh_tree.specs.Rows.{identity_row}
 use Rattle.mh_handle.specs.Parts.{PartsView}
 use Rattle.mh_handle.specs.Works.{TradesTypes}
-use Rattle.mh_handle.proofs.Trading.{trades-row}
+use Rattle.mh_handle.proofs.holding.Trading.{trades-row}
 use Rattle.mh_branch.proofs.RootAnswers.{identity-answers}
 use Rattle.mh_branch.proofs.roots.identity.Goals as goal
 

@@ -2,7 +2,7 @@ use Rattle.std.proofs.Common.{◌≡◌, sym, subst, ap, ◌∙◌, [], ◌∷�
 use Rattle.mh_tree.specs.Rows.{throw_row}
 use Rattle.mh_handle.specs.Parts.{PartsView}
 use Rattle.mh_handle.specs.Works.{TradesTypes}
-use Rattle.mh_handle.proofs.Trading.{trades-row}
+use Rattle.mh_handle.proofs.holding.Trading.{trades-row}
 use Rattle.mh_branch.proofs.RootAnswers.{throw-answers, throw-makes, throw-ret}
 use Rattle.mh_branch.proofs.roots.throw.Goals as goal
 

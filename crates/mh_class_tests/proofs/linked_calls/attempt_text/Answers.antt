@@ -1,5 +1,5 @@
 use Rattle.std.proofs.Common.{[]}
-use Rattle.mh_handle.proofs.Going.{goes_on-before, seated-back}
+use Rattle.mh_handle.proofs.obeying.Going.{goes_on-before, seated-back}
 use Rattle.mh_attempt.specs.Asked.{attempt_draws}
 use Rattle.mh_steps.proofs.Adding.{adds-held, adds-next}
 use Rattle.mh_class_tests.proofs.linked_calls.attempt_text.Goals as goal

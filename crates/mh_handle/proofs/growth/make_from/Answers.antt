@@ -8,9 +8,9 @@ use Rattle.mh_intern.proofs.Exchanging.{held-still}
 use Rattle.mh_handle.specs.Form.{body_of}
 use Rattle.mh_handle.specs.Parts.{PartsView}
 use Rattle.mh_handle.specs.Stands.{HasShape}
-use Rattle.mh_handle.proofs.Recipes.{body_of-snoc}
-use Rattle.mh_handle.proofs.HoldOrders.{exchanges-back, exchanges-few, exchanges-kept}
-use Rattle.mh_handle.proofs.UnformedHandles.{trades-unformed, unformed-yet}
+use Rattle.mh_handle.proofs.recipes.Recipes.{body_of-snoc}
+use Rattle.mh_handle.proofs.holding.HoldOrders.{exchanges-back, exchanges-few, exchanges-kept}
+use Rattle.mh_handle.proofs.holding.UnformedHandles.{trades-unformed, unformed-yet}
 use Rattle.mh_handle.proofs.growth.make_from.Goals as goal
 
 pub of-requires-clause-made : goal.of-requires-clause-made

@@ -1,6 +1,6 @@
 use Rattle.std.proofs.Common.{sym, subst, Err}
 use Rattle.mh_handle.specs.Works.{TradesForm}
-use Rattle.mh_handle.proofs.UnformedHandles.{form-unmade}
+use Rattle.mh_handle.proofs.holding.UnformedHandles.{form-unmade}
 use Rattle.mh_handle.proofs.growth.typed_form.Goals as goal
 
 pub returns-in-Err-clause-types : goal.returns-in-Err-clause-types

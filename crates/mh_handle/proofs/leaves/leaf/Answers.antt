@@ -1,6 +1,6 @@
 use Rattle.std.proofs.Common.{ap, ◌∙◌}
 use Rattle.mh_handle.specs.Parts.{PartsView}
-use Rattle.mh_handle.proofs.LeafStands.{leaf-answers}
+use Rattle.mh_handle.proofs.standing.LeafStands.{leaf-answers}
 use Rattle.mh_handle.proofs.leaves.leaf.Goals as goal
 
 pub returns-clause-stands : goal.returns-clause-stands

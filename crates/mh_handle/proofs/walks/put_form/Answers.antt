@@ -1,6 +1,6 @@
 use Rattle.std.proofs.Common.{◌∙◌, subst}
 use Rattle.mh_handle.specs.Passes.{IsPut}
-use Rattle.mh_handle.proofs.Passing.{put-is, starts-trans}
+use Rattle.mh_handle.proofs.passes.Passing.{put-is, starts-trans}
 use Rattle.mh_handle.proofs.walks.put_form.Goals as goal
 
 pub returns-in-Ok-clause-put : goal.returns-in-Ok-clause-put

@@ -1,6 +1,6 @@
 use denote.Param.Send.{sendable}
 use Rattle.std.proofs.Crossing.{crosses}
-use Rattle.mh_handle.proofs.Crossing.{form_sync, table_sync, pass_send}
+use Rattle.mh_handle.proofs.passes.Crossing.{form_sync, table_sync, pass_send}
 use Rattle.mh_handle_tests.proofs.passes.beside.Goals as goal
 
 pub join_mut-a-requires-send-F : goal.join_mut-a-requires-send-F

@@ -2,10 +2,10 @@ use Rattle.std.proofs.Common.{◌++◌}
 use Rattle.mh_intern.proofs.HeldLists.{held-first}
 use Rattle.mh_tree.specs.Rows.{tryfinally_row}
 use Rattle.mh_handle.specs.Works.{types_in}
-use Rattle.mh_handle.proofs.BackwardHolds.{second-yet}
-use Rattle.mh_handle.proofs.HoldOrders.{exchanges-back}
-use Rattle.mh_handle.proofs.Obeying.{given-obeys}
-use Rattle.mh_handle.proofs.Trading.{trades-checked, trades-row}
+use Rattle.mh_handle.proofs.holding.BackwardHolds.{second-yet}
+use Rattle.mh_handle.proofs.holding.HoldOrders.{exchanges-back}
+use Rattle.mh_handle.proofs.obeying.Obeying.{given-obeys}
+use Rattle.mh_handle.proofs.holding.Trading.{trades-checked, trades-row}
 use Rattle.mh_more.proofs.cleanups.tryfinally.Goals as goal
 
 pub give_back-requires-clause-held : goal.give_back-requires-clause-held

@@ -3,8 +3,8 @@ use Rattle.mh_more.proofs.Lists.{three-held}
 use Rattle.mh_tree.specs.declared.error.CheckError.TheVariants as check
 use Rattle.mh_tree.specs.Tree as tree
 use Rattle.mh_handle.specs.Recipe.{recipe}
-use Rattle.mh_handle.proofs.Going.{goes_on-after, makes-after, seated-still}
-use Rattle.mh_handle.proofs.Trading.{trades-checked}
+use Rattle.mh_handle.proofs.obeying.Going.{goes_on-after, makes-after, seated-still}
+use Rattle.mh_handle.proofs.holding.Trading.{trades-checked}
 use Rattle.mh_branch.proofs.Trading.{held-same, ready-still, trades-short}
 use Rattle.mh_more.specs.Roots.{CanRoot}
 use Rattle.mh_more.specs.Several.{holds_of}

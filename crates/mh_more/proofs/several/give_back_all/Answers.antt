@@ -1,7 +1,7 @@
 use Rattle.std.proofs.Common.{sym, ap, ◌∙◌, []}
 use Rattle.mh_intern.proofs.Exchanging.{exchanges-still, held-came}
-use Rattle.mh_handle.proofs.Going.{unchanged-both, unchanged-still}
-use Rattle.mh_handle.proofs.HoldOrders.{exchanges-kept}
+use Rattle.mh_handle.proofs.obeying.Going.{unchanged-both, unchanged-still}
+use Rattle.mh_handle.proofs.holding.HoldOrders.{exchanges-kept}
 use Rattle.mh_more.specs.Several.{holds_of}
 use Rattle.mh_more.proofs.Lists.{last-held, rest-exchanges}
 use Rattle.mh_more.proofs.several.give_back_all.Goals as goal

@@ -1,6 +1,6 @@
 use Rattle.std.proofs.Common.{◌∙◌, ap, sym, subst, [], ◌∷◌, length, arith}
 use Rattle.mh_intern.specs.Exchanges.{AreHeld, Exchanges}
-use Rattle.mh_handle.proofs.Going.{goes_on-after, makes-after, seated-still}
+use Rattle.mh_handle.proofs.obeying.Going.{goes_on-after, makes-after, seated-still}
 use Rattle.mh_branch.proofs.Trading.{held-same, ready-still, trades-parts, trades-short}
 use Rattle.mh_more.specs.Several.{holds_of}
 use Rattle.mh_more.proofs.Lists.{none-before}

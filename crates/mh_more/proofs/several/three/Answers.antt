@@ -1,7 +1,7 @@
 use Rattle.std.proofs.Common.{◌∙◌, ap, sym, subst, [], ◌∷◌, ◌++◌, append_assoc}
 use Rattle.mh_intern.specs.Exchanges.{AreHeld, Exchanges}
 use Rattle.mh_intern.proofs.HeldLists.{held-second}
-use Rattle.mh_handle.proofs.BackwardHolds.{exchanges-backwards, first-yet}
+use Rattle.mh_handle.proofs.holding.BackwardHolds.{exchanges-backwards, first-yet}
 use Rattle.mh_branch.proofs.Trading.{held-same}
 use Rattle.mh_more.specs.Several.{holds_of}
 use Rattle.mh_more.proofs.Lists.{listed-same, three-held, trades-given}

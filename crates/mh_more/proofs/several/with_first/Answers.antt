@@ -2,8 +2,8 @@ use Rattle.std.proofs.Common.{[], ◌∙◌, List, sym, subst}
 use Rattle.mh_intern.specs.Exchanges.{AreHeld, Exchanges}
 use Rattle.mh_intern.proofs.HeldLists.{held-first}
 use Rattle.mh_handle.specs.Stands.{HandleView}
-use Rattle.mh_handle.proofs.HoldOrders.{exchanges-back}
-use Rattle.mh_handle.proofs.BackwardHolds.{second-yet}
+use Rattle.mh_handle.proofs.holding.HoldOrders.{exchanges-back}
+use Rattle.mh_handle.proofs.holding.BackwardHolds.{second-yet}
 use Rattle.mh_more.specs.Several.{holds_of}
 use Rattle.mh_more.proofs.several.with_first.Goals as goal
 

@@ -1,8 +1,8 @@
 use Rattle.std.proofs.Common.{◌++◌}
 use Rattle.mh_tree.specs.Rows.{switch_row}
 use Rattle.mh_handle.specs.Works.{types_in}
-use Rattle.mh_handle.proofs.Obeying.{given-obeys}
-use Rattle.mh_handle.proofs.Trading.{trades-checked, trades-row}
+use Rattle.mh_handle.proofs.obeying.Obeying.{given-obeys}
+use Rattle.mh_handle.proofs.holding.Trading.{trades-checked, trades-row}
 use Rattle.mh_more.specs.Several.{holds_of, own_types, weights_of}
 use Rattle.mh_more.proofs.switches.switch.Goals as goal
 

@@ -7,7 +7,7 @@ use Rattle.mh_handle.specs.declared.handle.Handle.{Handle}
 use Rattle.mh_handle.specs.Answers.{IsAnswer}
 use Rattle.mh_handle.specs.Recipe.{recipe}
 use Rattle.mh_handle.specs.declared.answer.Answer.{Answer}
-use Rattle.mh_handle.proofs.Going.{goes_on-before, goes_on-both, seated-back}
+use Rattle.mh_handle.proofs.obeying.Going.{goes_on-before, goes_on-both, seated-back}
 use Rattle.mh_intern.specs.Exchanges.{Exchanges}
 use Rattle.mh_branch.proofs.Trading.{held-same}
 use Rattle.mh_link.specs.Made.{types_of}

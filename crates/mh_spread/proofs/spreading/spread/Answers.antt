@@ -7,8 +7,8 @@ use Rattle.mh_tree.specs.Use.{items_used_as, used_as}
 use Rattle.mh_handle.specs.Parts.{PartsView}
 use Rattle.mh_handle.specs.Recipe.{recipe}
 use Rattle.mh_handle.specs.Works.{HoldsTypes, TradesTypes}
-use Rattle.mh_handle.proofs.Going.{goes_on-both}
-use Rattle.mh_handle.proofs.Trading.{trades-checked}
+use Rattle.mh_handle.proofs.obeying.Going.{goes_on-both}
+use Rattle.mh_handle.proofs.holding.Trading.{trades-checked}
 use Rattle.mh_astype.specs.Use.{MakesFrom, used_types}
 use Rattle.mh_spread.specs.Spreading.{spread_types}
 use Rattle.mh_spread.proofs.SpreadCall.{call-fits, call-light, call-makes, call-obeys, call-shaped, call-sides, call-stands}

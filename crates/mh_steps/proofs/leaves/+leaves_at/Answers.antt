@@ -1,6 +1,6 @@
 use Rattle.std.proofs.Common.{◌+◌, ap, arith, length, subst, [], ◌++◌}
-use Rattle.mh_handle.proofs.Going.{goes_on-before, goes_on-both, goes_on-more, seated-back}
-use Rattle.mh_handle.proofs.Rooms.{goes_on-none, ready-after, ready-less}
+use Rattle.mh_handle.proofs.obeying.Going.{goes_on-before, goes_on-both, goes_on-more, seated-back}
+use Rattle.mh_handle.proofs.obeying.Rooms.{goes_on-none, ready-after, ready-less}
 use Rattle.mh_more.specs.Several.{holds_of}
 use Rattle.mh_steps.specs.SomeCases.{StandForSome}
 use Rattle.mh_steps.proofs.Adding.{adds-back, adds-both, adds-held, adds-next, adds-none, adds-still, adds-yet}

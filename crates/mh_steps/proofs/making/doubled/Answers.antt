@@ -1,7 +1,7 @@
 use Rattle.std.proofs.Common.{[], ◌++◌, ap, arith}
 use Rattle.mh_tree.specs.Tree as tree
-use Rattle.mh_handle.proofs.Going.{goes_on-both, unchanged-goes_on}
-use Rattle.mh_handle.proofs.Rooms.{ready-after}
+use Rattle.mh_handle.proofs.obeying.Going.{goes_on-both, unchanged-goes_on}
+use Rattle.mh_handle.proofs.obeying.Rooms.{ready-after}
 use Rattle.mh_steps.proofs.Adding.{adds, adds-back, adds-beside, adds-yet, copy-seated, types-with}
 use Rattle.mh_steps.proofs.Rooms.{some-over, stands-over}
 use Rattle.mh_steps.proofs.making.doubled.Goals as goal

@@ -1,6 +1,6 @@
 use Rattle.std.proofs.Common.{ap, [], ◌+◌, ◌*◌, arith}
-use Rattle.mh_handle.proofs.Going.{goes_on-both, goes_on-more}
-use Rattle.mh_handle.proofs.Rooms.{ready-less, ready-after}
+use Rattle.mh_handle.proofs.obeying.Going.{goes_on-both, goes_on-more}
+use Rattle.mh_handle.proofs.obeying.Rooms.{ready-less, ready-after}
 use Rattle.mh_steps.proofs.Adding.{adds-held, adds-next, adds-refused}
 use Rattle.mh_steps.proofs.Rooms.{stands-over}
 use Rattle.mh_steps.proofs.making.made.Goals as goal

@@ -1,6 +1,6 @@
 use Rattle.std.proofs.Common.{subst, ap, [], IfOk, arith}
 use Rattle.mh_handle.specs.Stands.{StandsForSome}
-use Rattle.mh_handle.proofs.Going.{goes_on-before, goes_on-both, goes_on-more, seated-back}
+use Rattle.mh_handle.proofs.obeying.Going.{goes_on-before, goes_on-both, goes_on-more, seated-back}
 use Rattle.mh_steps.proofs.Adding.{adds-back, adds-beside, adds-yet, types-with}
 use Rattle.mh_steps.proofs.making.with_part.Goals as goal
 

@@ -1,7 +1,7 @@
 use Rattle.std.proofs.Common.{ap, ◌∙◌, [], ◌++◌, arith}
 use Rattle.mh_tree.specs.Tree as tree
-use Rattle.mh_handle.proofs.Going.{goes_on-before, goes_on-both, goes_on-more, seated-back}
-use Rattle.mh_handle.proofs.Rooms.{ready-after}
+use Rattle.mh_handle.proofs.obeying.Going.{goes_on-before, goes_on-both, goes_on-more, seated-back}
+use Rattle.mh_handle.proofs.obeying.Rooms.{ready-after}
 use Rattle.mh_steps.proofs.Adding.{adds, adds-held, both-back, first-held, second-held, three, types-next}
 use Rattle.mh_steps.proofs.Rooms.{some-over, stands-over}
 use Rattle.mh_steps.proofs.roots.guarded.Goals as goal

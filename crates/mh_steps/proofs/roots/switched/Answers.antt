@@ -1,8 +1,8 @@
 use Rattle.std.proofs.Common.{◌+◌, ap, ◌∙◌, length, [], ◌++◌, arith}
 use Rattle.mh_tree.specs.Tree as tree
 use Rattle.mh_more.specs.Several.{holds_of}
-use Rattle.mh_handle.proofs.Going.{goes_on-before, goes_on-both, goes_on-more, seated-back}
-use Rattle.mh_handle.proofs.Rooms.{ready-after, ready-less}
+use Rattle.mh_handle.proofs.obeying.Going.{goes_on-before, goes_on-both, goes_on-more, seated-back}
+use Rattle.mh_handle.proofs.obeying.Rooms.{ready-after, ready-less}
 use Rattle.mh_steps.proofs.Adding.{adds, adds-both, adds-held, adds-next, adds-still, adds-yet, types-next}
 use Rattle.mh_steps.proofs.Listing.{stand-over}
 use Rattle.mh_steps.proofs.Rooms.{some-over, stands-over}

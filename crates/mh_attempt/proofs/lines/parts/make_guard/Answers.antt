@@ -1,8 +1,8 @@
 use Rattle.std.proofs.Common.{◌∙◌, sym, refl, arith, [], ◌∷◌, ◌++◌, Ok}
 use Rattle.mh_tree.specs.Tree as tree
 use Rattle.mh_handle.specs.declared.handle.Handle.{Handle}
-use Rattle.mh_handle.proofs.Going.{goes_on-more}
-use Rattle.mh_handle.proofs.Rooms.{goes_on-sum, ready-after}
+use Rattle.mh_handle.proofs.obeying.Going.{goes_on-more}
+use Rattle.mh_handle.proofs.obeying.Rooms.{goes_on-sum, ready-after}
 use Rattle.mh_attempt.proofs.Adding.{holds-came}
 use Rattle.mh_attempt.proofs.LineNodes.{stands-yet}
 use Rattle.mh_attempt.proofs.MadeNodes.{of-refused, of-ruled, of-unmade}

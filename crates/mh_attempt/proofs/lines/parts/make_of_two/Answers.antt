@@ -1,7 +1,7 @@
 use Rattle.std.proofs.Common.{◌∙◌, sym, ap, refl, arith, [], ◌∷◌, ◌++◌, Ok}
 use Rattle.mh_handle.specs.declared.handle.Handle.{Handle}
-use Rattle.mh_handle.proofs.Going.{goes_on-more}
-use Rattle.mh_handle.proofs.Rooms.{goes_on-sum, ready-after}
+use Rattle.mh_handle.proofs.obeying.Going.{goes_on-more}
+use Rattle.mh_handle.proofs.obeying.Rooms.{goes_on-sum, ready-after}
 use Rattle.mh_attempt.specs.Nodes.{two_tree}
 use Rattle.mh_attempt.proofs.Adding.{holds-came}
 use Rattle.mh_attempt.proofs.LineNodes.{stands-yet}

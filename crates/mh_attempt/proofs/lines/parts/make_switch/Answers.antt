@@ -1,7 +1,7 @@
 use Rattle.std.proofs.Common.{◌∙◌, sym, ap, refl, arith, [], ◌∷◌, ◌++◌, Ok}
 use Rattle.mh_tree.specs.Tree as tree
-use Rattle.mh_handle.proofs.Going.{goes_on-more}
-use Rattle.mh_handle.proofs.Rooms.{goes_on-sum, ready-after, ready-less}
+use Rattle.mh_handle.proofs.obeying.Going.{goes_on-more}
+use Rattle.mh_handle.proofs.obeying.Rooms.{goes_on-sum, ready-after, ready-less}
 use Rattle.mh_more.specs.declared.switches.Switched.{Switched}
 use Rattle.mh_more.specs.Several.{holds_of}
 use Rattle.mh_attempt.proofs.Adding.{holds-came}

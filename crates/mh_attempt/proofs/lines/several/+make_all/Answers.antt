@@ -1,6 +1,6 @@
 use Rattle.std.proofs.Common.{◌+◌, ap, arith, length, sym, subst, [], ◌∷◌, ◌++◌, Ok, Err}
 use Rattle.mh_handle.specs.declared.handle.Handle.{Handle}
-use Rattle.mh_handle.proofs.HoldOrders.{exchanges-back}
+use Rattle.mh_handle.proofs.holding.HoldOrders.{exchanges-back}
 use Rattle.mh_intern.specs.Exchanges.{Exchanges}
 use Rattle.mh_intern.proofs.Exchanging.{exchanges-still}
 use Rattle.mh_tree.specs.Tree.{Cases}

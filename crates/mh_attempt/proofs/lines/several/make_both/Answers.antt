@@ -4,7 +4,7 @@ use Rattle.mh_attempt.specs.AskedTypes.{types_made}
 use Rattle.mh_attempt.specs.Recipes.{recipes_made}
 use Rattle.mh_attempt.proofs.AskedNodes.{asks-unchanged}
 use Rattle.mh_attempt.proofs.AskedOperands.{asks-more, asks-unmade-both}
-use Rattle.mh_handle.proofs.Going.{goes_on-before, goes_on-both, seated-back}
+use Rattle.mh_handle.proofs.obeying.Going.{goes_on-before, goes_on-both, seated-back}
 use Rattle.mh_attempt.proofs.Adding.{adds-back, adds-both, holds-after, of-types, operand-yet}
 use Rattle.mh_attempt.proofs.AskingTypes.{types-back}
 use Rattle.mh_attempt.proofs.OperandTypes.{types-others, types-unmade_both}

@@ -1,7 +1,7 @@
 use Rattle.std.proofs.Common.{sym, subst, [], ◌∷◌, ◌+◌, arith, Ok, Err}
 use Rattle.mh_handle.specs.declared.handle.Handle.{Handle}
 use Rattle.mh_more.specs.Several.{holds_of}
-use Rattle.mh_handle.proofs.Rooms.{ready-less}
+use Rattle.mh_handle.proofs.obeying.Rooms.{ready-less}
 use Rattle.mh_attempt.specs.AskedTypes.{types_made}
 use Rattle.mh_attempt.specs.Cases.{AreLeavesOfType, leaf_recipe, own_weight, own_weights}
 use Rattle.mh_attempt.specs.Recipes.{recipes_made}

@@ -1,7 +1,7 @@
 use Rattle.std.proofs.Common.{◌∙◌, arith, [], ◌∷◌, ◌++◌, Ok, Err}
-use Rattle.mh_handle.proofs.Going.{goes_on-before, goes_on-both, seated-back}
+use Rattle.mh_handle.proofs.obeying.Going.{goes_on-before, goes_on-both, seated-back}
 use Rattle.mh_handle.specs.declared.handle.Handle.{Handle}
-use Rattle.mh_handle.proofs.Rooms.{goes_on-sum}
+use Rattle.mh_handle.proofs.obeying.Rooms.{goes_on-sum}
 use Rattle.mh_attempt.specs.AskedTypes.{types_made}
 use Rattle.mh_attempt.specs.Recipes.{recipes_made}
 use Rattle.mh_attempt.proofs.AskedNodes.{asks-unchanged}

@@ -2,8 +2,8 @@ use Rattle.std.proofs.Common.{◌∙◌, arith, [], ◌∷◌}
 use Rattle.mh_tree.specs.Tree as tree
 use Rattle.mh_tree.specs.Use.{items_used_as}
 use Rattle.mh_handle.specs.declared.handle.Handle.{Handle}
-use Rattle.mh_handle.proofs.Going.{goes_on-more}
-use Rattle.mh_handle.proofs.Rooms.{goes_on-sum, ready-after}
+use Rattle.mh_handle.proofs.obeying.Going.{goes_on-more}
+use Rattle.mh_handle.proofs.obeying.Rooms.{goes_on-sum, ready-after}
 use Rattle.mh_link.specs.Operations.{spread_of}
 use Rattle.mh_attempt.specs.Recipes.{spread_asked}
 use Rattle.mh_attempt.proofs.Adding.{adds-then, holds-came}

@@ -1,7 +1,7 @@
 use Rattle.std.proofs.Common.{◌++◌}
 use Rattle.mh_intern.proofs.HeldLists.{held-first}
-use Rattle.mh_handle.proofs.HoldOrders.{exchanges-back}
-use Rattle.mh_handle.proofs.BackwardHolds.{second-yet}
+use Rattle.mh_handle.proofs.holding.HoldOrders.{exchanges-back}
+use Rattle.mh_handle.proofs.holding.BackwardHolds.{second-yet}
 use Rattle.mh_branch.proofs.growths.Branches.refuse.Goals as goal
 
 pub give_back-requires-clause-held : goal.give_back-requires-clause-held

@@ -3,8 +3,8 @@ use Rattle.mh_form.specs.Run.{sense}
 use Rattle.mh_intern.specs.Exchanges.{types_of}
 use Rattle.mh_intern.specs.Views.{HoldView}
 use Rattle.mh_handle.specs.Stands.{HandleView}
-use Rattle.mh_handle.proofs.UnformedHandles.{same-own, same-sides}
-use Rattle.mh_handle.proofs.Copying.{stands-copied}
+use Rattle.mh_handle.proofs.holding.UnformedHandles.{same-own, same-sides}
+use Rattle.mh_handle.proofs.standing.Copying.{stands-copied}
 use Rattle.mh_handle.proofs.handle.Handle.copy.Goals as goal
 
 pub returns-clause-fields : goal.returns-clause-fields

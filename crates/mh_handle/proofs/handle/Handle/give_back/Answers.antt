@@ -3,7 +3,7 @@ use Rattle.mh_intern.specs.Exchanges.{AreHeld, Exchanges}
 use Rattle.mh_intern.proofs.HeldLists.{held-first}
 use Rattle.mh_intern.proofs.Exchanging.{held-still}
 use Rattle.mh_handle.specs.Stands.{HandleView}
-use Rattle.mh_handle.proofs.HoldOrders.{exchanges-back}
+use Rattle.mh_handle.proofs.holding.HoldOrders.{exchanges-back}
 use Rattle.mh_handle.proofs.handle.Handle.give_back.Goals as goal
 
 pub let_go-requires-clause-held : goal.let_go-requires-clause-held

@@ -4,10 +4,10 @@ use Rattle.mh_intern.proofs.HeldLists.{held-second}
 use Rattle.mh_intern.proofs.Exchanging.{held-still}
 use Rattle.mh_handle.specs.Stands.{HandleView}
 use Rattle.mh_handle.specs.Works.{TradesTypes}
-use Rattle.mh_handle.proofs.Going.{goes_on-before, seated-back}
-use Rattle.mh_handle.proofs.SingleHolds.{held-swapped}
-use Rattle.mh_handle.proofs.Trading.{held_in, traded-any, trades-after, trades-same}
-use Rattle.mh_handle.proofs.HoldOrders.{same-swapped}
+use Rattle.mh_handle.proofs.obeying.Going.{goes_on-before, seated-back}
+use Rattle.mh_handle.proofs.holding.SingleHolds.{held-swapped}
+use Rattle.mh_handle.proofs.holding.Trading.{held_in, traded-any, trades-after, trades-same}
+use Rattle.mh_handle.proofs.holding.HoldOrders.{same-swapped}
 use Rattle.mh_handle.proofs.handle.Handle.grown.Goals as goal
 
 pub make_from-made-requires-clause-held : goal.make_from-made-requires-clause-held

@@ -3,7 +3,7 @@ use Rattle.mh_intern.specs.Exchanges.{AreHeld}
 use Rattle.mh_intern.proofs.Exchanging.{exchanges-both, held-came}
 use Rattle.mh_intern.proofs.HeldLists.{held-first, held-none, held-second}
 use Rattle.mh_handle.specs.Stands.{HandleView}
-use Rattle.mh_handle.proofs.SingleHolds.{held-yet, taken-back}
+use Rattle.mh_handle.proofs.holding.SingleHolds.{held-yet, taken-back}
 use Rattle.mh_handle.proofs.handle.Handle.holds_again.Goals as goal
 
 pub hold_again-requires-clause-held : goal.hold_again-requires-clause-held

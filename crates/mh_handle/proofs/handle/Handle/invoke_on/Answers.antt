@@ -2,7 +2,7 @@ use Rattle.std.proofs.Common.{rules, subst, length, map, IfOk}
 use Rattle.mh_form.specs.Erasure.{erased}
 use Rattle.mh_handle.specs.Answers.{IsAnswer, answer_in, typed_ran}
 use Rattle.mh_handle.specs.Stands.{handle_run}
-use Rattle.mh_handle.proofs.Answering.{typed_run-stands}
+use Rattle.mh_handle.proofs.standing.Answering.{typed_run-stands}
 use Rattle.mh_handle.proofs.handle.Handle.invoke_on.Goals as goal
 
 pub returns-clause-tree : goal.returns-clause-tree

@@ -2,9 +2,9 @@ use Rattle.std.proofs.Common.{[], ◌∷◌, ◌++◌, ap, sym, subst}
 use Rattle.mh_intern.specs.Exchanges.{AreHeld, Exchanges}
 use Rattle.mh_intern.proofs.HeldLists.{held-first, held-second}
 use Rattle.mh_handle.specs.Stands.{HandleView}
-use Rattle.mh_handle.proofs.HoldOrders.{exchanges-after, exchanges-kept}
-use Rattle.mh_handle.proofs.SingleHolds.{held-yet, unheld-yet}
-use Rattle.mh_handle.proofs.Trading.{trades-unheld}
+use Rattle.mh_handle.proofs.holding.HoldOrders.{exchanges-after, exchanges-kept}
+use Rattle.mh_handle.proofs.holding.SingleHolds.{held-yet, unheld-yet}
+use Rattle.mh_handle.proofs.holding.Trading.{trades-unheld}
 use Rattle.mh_handle.proofs.handle.Handle.retype.Goals as goal
 
 pub let_go-requires-clause-held : goal.let_go-requires-clause-held

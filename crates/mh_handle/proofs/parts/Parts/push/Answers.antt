@@ -6,7 +6,7 @@ use Rattle.mh_intern.specs.Views.{HoldView}
 use Rattle.mh_intern.proofs.HeldLists.{held-first}
 use Rattle.mh_intern.proofs.Exchanging.{held-still}
 use Rattle.mh_handle.specs.Stands.{HandleView}
-use Rattle.mh_handle.proofs.HoldOrders.{exchanges-back}
+use Rattle.mh_handle.proofs.holding.HoldOrders.{exchanges-back}
 use Rattle.mh_handle.proofs.parts.Parts.push.Goals as goal
 
 pub let_go-requires-clause-held : goal.let_go-requires-clause-held

@@ -1,4 +1,4 @@
-use Rattle.mh_handle.proofs.Passing.{pass-asks}
+use Rattle.mh_handle.proofs.passes.Passing.{pass-asks}
 use Rattle.mh_handle.proofs.pass.FormPass.ask.Goals as goal
 
 pub add-requires : goal.add-requires

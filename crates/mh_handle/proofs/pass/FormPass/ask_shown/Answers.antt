@@ -1,5 +1,5 @@
-use Rattle.mh_handle.proofs.Edits.{edits-found}
-use Rattle.mh_handle.proofs.Learning.{lacks-found}
+use Rattle.mh_handle.proofs.passes.Edits.{edits-found}
+use Rattle.mh_handle.proofs.passes.Learning.{lacks-found}
 use Rattle.mh_handle.proofs.pass.FormPass.ask_shown.Goals as goal
 
 pub returns-clause-asks : goal.returns-clause-asks

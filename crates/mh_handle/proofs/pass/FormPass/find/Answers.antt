@@ -1,7 +1,7 @@
 use Rattle.std.proofs.Common.{refl}
 use Rattle.mh_handle.specs.Chains.{learnt_by}
-use Rattle.mh_handle.proofs.Learning.{kept-found}
-use Rattle.mh_handle.proofs.Passing.{found-form, pass-learns}
+use Rattle.mh_handle.proofs.passes.Learning.{kept-found}
+use Rattle.mh_handle.proofs.passes.Passing.{found-form, pass-learns}
 use Rattle.mh_handle.proofs.pass.FormPass.find.Goals as goal
 
 pub invariant_of-self : goal.invariant_of-self

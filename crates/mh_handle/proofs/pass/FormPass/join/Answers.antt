@@ -1,9 +1,9 @@
 use Rattle.std.proofs.Common.{◌∙◌, ap, map, refl}
 use Rattle.std.proofs.lemmas.List.{map-append}
 use Rattle.mh_handle.specs.Chains.{learnt_by}
-use Rattle.mh_handle.proofs.JoinedPasses.{passes-joined, seats-joined}
-use Rattle.mh_handle.proofs.Learning.{found-alike, kept-found}
-use Rattle.mh_handle.proofs.Passing.{pass-same}
+use Rattle.mh_handle.proofs.passes.JoinedPasses.{passes-joined, seats-joined}
+use Rattle.mh_handle.proofs.passes.Learning.{found-alike, kept-found}
+use Rattle.mh_handle.proofs.passes.Passing.{pass-same}
 use Rattle.mh_handle.proofs.pass.FormPass.join.Goals as goal
 
 pub invariant_of-self : goal.invariant_of-self

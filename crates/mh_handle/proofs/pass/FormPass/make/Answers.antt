@@ -1,9 +1,9 @@
 use Rattle.std.proofs.Common.{ap, subst, sym, refl, map}
 use Rattle.mh_handle.specs.Chains.{learnt_by}
 use Rattle.mh_handle.specs.Passes.{AreLearnt, IsFormOf, PassView, StaysLearnt}
-use Rattle.mh_handle.proofs.Edits.{made-asked, made-refused, put-has, put-kept}
-use Rattle.mh_handle.proofs.Learning.{has-found, kept-found}
-use Rattle.mh_handle.proofs.Passing.{lacks-same, pass-draws, pass-keeps, pass-learns, pass-same}
+use Rattle.mh_handle.proofs.passes.Edits.{made-asked, made-refused, put-has, put-kept}
+use Rattle.mh_handle.proofs.passes.Learning.{has-found, kept-found}
+use Rattle.mh_handle.proofs.passes.Passing.{lacks-same, pass-draws, pass-keeps, pass-learns, pass-same}
 use Rattle.mh_handle.proofs.pass.FormPass.make.Goals as goal
 
 pub invariant_of-self-then-number-gt-LIMIT : goal.invariant_of-self-then-number-gt-LIMIT

@@ -1,6 +1,6 @@
 use Rattle.std.proofs.Common.{◌++◌, ◌∷◌, []}
 use Rattle.mh_handle.specs.Chains.{learnt_by}
-use Rattle.mh_handle.proofs.Passing.{seen-form}
+use Rattle.mh_handle.proofs.passes.Passing.{seen-form}
 use Rattle.mh_handle.proofs.pass.FormPass.seen.Goals as goal
 
 pub returns-clause-form : goal.returns-clause-form

@@ -1,6 +1,6 @@
 use Rattle.std.proofs.Common.{◌+◌, ◌*◌, ◌%◌, ap, ◌∙◌, sym}
 use Rattle.mh_handle.specs.Chains.{chain_count, kind_of}
-use Rattle.mh_handle.proofs.Recipes.{chain_of-snoc}
+use Rattle.mh_handle.proofs.recipes.Recipes.{chain_of-snoc}
 use Rattle.mh_handle.proofs.recipe.Recipe.chain_then.Goals as goal
 
 pub returns-clause-chain : goal.returns-clause-chain

@@ -1,6 +1,6 @@
 use Rattle.std.proofs.Common.{ap₂, ◌∙◌, sym}
 use Rattle.mh_handle.specs.Hashes.{mixed}
-use Rattle.mh_handle.proofs.Recipes.{hash_of-snoc}
+use Rattle.mh_handle.proofs.recipes.Recipes.{hash_of-snoc}
 use Rattle.mh_handle.proofs.recipe.Recipe.hash_then.Goals as goal
 
 pub returns-clause-hash : goal.returns-clause-hash

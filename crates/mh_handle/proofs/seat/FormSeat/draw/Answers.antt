@@ -1,4 +1,4 @@
-use Rattle.mh_handle.proofs.Numbers.{drawn-of}
+use Rattle.mh_handle.proofs.passes.Numbers.{drawn-of}
 use Rattle.mh_handle.proofs.seat.FormSeat.draw.Goals as goal
 
 pub returns : goal.returns

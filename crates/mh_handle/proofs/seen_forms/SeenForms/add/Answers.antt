@@ -1,6 +1,6 @@
 use Rattle.std.proofs.Common.{ap, ◌∙◌, arith, map, ◌++◌, ◌∷◌, []}
 use Rattle.mh_handle.specs.Hashes.{hash_of}
-use Rattle.mh_handle.proofs.Asked.{mapped-push, seen-more}
+use Rattle.mh_handle.proofs.passes.Asked.{mapped-push, seen-more}
 use Rattle.mh_handle.proofs.seen_forms.SeenForms.add.Goals as goal
 
 pub invariant_of-self-2 : goal.invariant_of-self-2

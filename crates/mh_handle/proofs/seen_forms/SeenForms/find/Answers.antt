@@ -1,7 +1,7 @@
 use Rattle.std.proofs.Common.{arith, map, ◌∙◌}
 use Rattle.std.proofs.lemmas.List.{length-map}
 use Rattle.mh_setonce.proofs.Nodes.{name_at}
-use Rattle.mh_handle.proofs.Asked.{searched-next, searched-none, searched-within}
+use Rattle.mh_handle.proofs.passes.Asked.{searched-next, searched-none, searched-within}
 use Rattle.mh_handle.proofs.seen_forms.SeenForms.find.Goals as goal
 
 pub loop-next-preserved : goal.loop-next-preserved

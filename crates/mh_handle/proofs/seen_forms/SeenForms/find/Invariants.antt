@@ -1,5 +1,5 @@
 use Rattle.std.proofs.Common.{map}
-use Rattle.mh_handle.proofs.Asked.{Searched, turns}
+use Rattle.mh_handle.proofs.passes.Asked.{Searched, turns}
 use Rattle.mh_handle.proofs.seen_forms.SeenForms.find.Given as goal
 
 abbrev pub invariant-loop-next : goal.invariant-loop-next

@@ -6,8 +6,8 @@ use Rattle.mh_setonce.specs.Walks.{Distinct, Has, Lacks}
 use Rattle.mh_handle.specs.Form.{FormView}
 use Rattle.mh_handle.specs.Index.{recipe_of}
 use Rattle.mh_handle.specs.Joins.{unasked}
-use Rattle.mh_handle.proofs.Asked.{mapped-push}
-use Rattle.mh_handle.proofs.JoinedForms.{finds-none, finds-some, joined-new, joined-old, lacks-before}
+use Rattle.mh_handle.proofs.passes.Asked.{mapped-push}
+use Rattle.mh_handle.proofs.passes.JoinedForms.{finds-none, finds-some, joined-new, joined-old, lacks-before}
 use Rattle.mh_handle.proofs.seen_forms.SeenForms.joined.Goals as goal
 use Rattle.mh_handle.proofs.seen_forms.SeenForms.joined.Goals.{then-is_none+in_ok-add, else-is_none}
 

@@ -2,9 +2,9 @@ use Rattle.std.proofs.Common.{◌≡◌, ◌++◌, ◌∷◌, [], ap, ◌∙◌,
 use Rattle.mh_edit.specs.Applied.{applied}
 use Rattle.mh_handle.specs.Form.{body_of}
 use Rattle.mh_handle.specs.Passes.{Edits}
-use Rattle.mh_handle.proofs.Recipes.{body_of-snoc}
-use Rattle.mh_handle.proofs.Passing.{lacks-same}
-use Rattle.mh_handle.proofs.Edits.{edits-made, edits-seen}
+use Rattle.mh_handle.proofs.recipes.Recipes.{body_of-snoc}
+use Rattle.mh_handle.proofs.passes.Passing.{lacks-same}
+use Rattle.mh_handle.proofs.passes.Edits.{edits-made, edits-seen}
 use Rattle.mh_handle.proofs.table.FormTable.edit_by.Goals as goal
 
 pub ask_shown-requires-clause-new : goal.ask_shown-requires-clause-new

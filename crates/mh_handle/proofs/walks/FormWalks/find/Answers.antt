@@ -2,7 +2,7 @@ use Rattle.std.proofs.Common.{◌≡◌, sym, Some}
 use Rattle.std.specs.Prelude.{slice_get, slice_set}
 use Rattle.std.proofs.lemmas.Option.{slice_get_read}
 use Rattle.mh_setonce.proofs.Replaced.{set-chains}
-use Rattle.mh_handle.proofs.ManyWalks.{found-finds, one-each, set-learnt, set-walks}
+use Rattle.mh_handle.proofs.chains.ManyWalks.{found-finds, one-each, set-learnt, set-walks}
 use Rattle.mh_handle.proofs.walks.FormWalks.find.Goals as goal
 
 -- the walk that stands there

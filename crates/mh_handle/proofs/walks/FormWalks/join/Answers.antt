@@ -2,8 +2,8 @@ use Rattle.std.proofs.Common.{◌≡◌, ◌<◌, ◌≤◌, sym, Some, length, 
 use Rattle.std.specs.Prelude.{slice_get}
 use Rattle.std.proofs.lemmas.Option.{slice_get_read}
 use Rattle.mh_handle.specs.Chains.{chain_count}
-use Rattle.mh_handle.proofs.ManyWalks.{one-each}
-use Rattle.mh_handle.proofs.JoiningWalks.{joined-mine, joined-theirs, joining-first, joining-next}
+use Rattle.mh_handle.proofs.chains.ManyWalks.{one-each}
+use Rattle.mh_handle.proofs.chains.JoiningWalks.{joined-mine, joined-theirs, joining-first, joining-next}
 use Rattle.mh_handle.proofs.walks.FormWalks.join.Goals as goal
 
 pub loop-place-init : goal.loop-place-init

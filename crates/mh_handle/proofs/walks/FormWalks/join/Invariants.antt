@@ -1,4 +1,4 @@
-use Rattle.mh_handle.proofs.JoiningWalks.{Joining}
+use Rattle.mh_handle.proofs.chains.JoiningWalks.{Joining}
 use Rattle.mh_handle.proofs.walks.FormWalks.join.Given as goal
 
 abbrev pub invariant-loop-place : goal.invariant-loop-place

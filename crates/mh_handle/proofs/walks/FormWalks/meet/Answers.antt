@@ -1,7 +1,7 @@
 use Rattle.std.proofs.Common.{◌≤◌, ap, length, arith}
 use Rattle.std.proofs.lemmas.Option.{slice_get_within}
 use Rattle.mh_handle.specs.Chains.{chain_count}
-use Rattle.mh_handle.proofs.MeetingWalks.{walks-match}
+use Rattle.mh_handle.proofs.chains.MeetingWalks.{walks-match}
 use Rattle.mh_handle.proofs.walks.FormWalks.meet.Goals as goal
 
 pub returns-clause-matching : goal.returns-clause-matching

@@ -2,7 +2,7 @@ use Rattle.std.proofs.Common.{◌≡◌, ◌∙◌, sym, ap, subst, length, take
 use Rattle.std.proofs.lemmas.List.{take_all, take_more}
 use Rattle.mh_handle.specs.Chains.{chain_count}
 use Rattle.mh_setonce.proofs.NewWalks.{AreNew, new-push}
-use Rattle.mh_handle.proofs.NewWalks.{new-learnt, new-walks}
+use Rattle.mh_handle.proofs.chains.NewWalks.{new-learnt, new-walks}
 use Rattle.mh_handle.proofs.walks.FormWalks.new.Goals as goal
 
 pub loop-chain-preserved : goal.loop-chain-preserved

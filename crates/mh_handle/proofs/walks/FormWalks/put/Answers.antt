@@ -3,7 +3,7 @@ use Rattle.std.specs.Prelude.{slice_get, slice_set}
 use Rattle.std.proofs.lemmas.Option.{slice_get_read}
 use Rattle.mh_handle.specs.Chains.{chain_of}
 use Rattle.mh_setonce.proofs.Replaced.{set-chains}
-use Rattle.mh_handle.proofs.ManyWalks.{one-each, put-finds, set-learnt, set-walks}
+use Rattle.mh_handle.proofs.chains.ManyWalks.{one-each, put-finds, set-learnt, set-walks}
 use Rattle.mh_handle.proofs.walks.FormWalks.put.Given as given
 use Rattle.mh_handle.proofs.walks.FormWalks.put.Goals as goal
 

@@ -1,5 +1,5 @@
 use Rattle.std.proofs.Common.{arith}
-use Rattle.mh_handle.proofs.SingleHolds.{hold-trades}
+use Rattle.mh_handle.proofs.holding.SingleHolds.{hold-trades}
 use Rattle.mh_handle.proofs.work.Work.hold.Goals as goal
 
 pub returns-clause-types : goal.returns-clause-types

@@ -1,6 +1,6 @@
 use Rattle.std.proofs.Common.{[]}
 use Rattle.mh_intern.proofs.HeldLists.{hold-held}
-use Rattle.mh_handle.proofs.SingleHolds.{copy-trades}
+use Rattle.mh_handle.proofs.holding.SingleHolds.{copy-trades}
 use Rattle.mh_handle.proofs.work.Work.hold_again.Goals as goal
 
 pub dup-requires-clause-held : goal.dup-requires-clause-held

@@ -1,6 +1,6 @@
 use Rattle.std.proofs.Common.{[]}
 use Rattle.mh_intern.proofs.HeldLists.{hold-held}
-use Rattle.mh_handle.proofs.SingleHolds.{let-go}
+use Rattle.mh_handle.proofs.holding.SingleHolds.{let-go}
 use Rattle.mh_handle.proofs.work.Work.let_go.Goals as goal
 
 pub release-requires-clause-held : goal.release-requires-clause-held

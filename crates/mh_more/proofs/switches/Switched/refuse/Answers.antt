@@ -2,7 +2,7 @@ use Rattle.std.proofs.Common.{[], sym, subst, List}
 use Rattle.mh_intern.specs.Exchanges.{AreHeld, Exchanges}
 use Rattle.mh_intern.proofs.HeldLists.{held-second}
 use Rattle.mh_handle.specs.Stands.{HandleView}
-use Rattle.mh_handle.proofs.BackwardHolds.{exchanges-backwards, first-yet}
+use Rattle.mh_handle.proofs.holding.BackwardHolds.{exchanges-backwards, first-yet}
 use Rattle.mh_more.specs.Several.{holds_of}
 use Rattle.mh_more.proofs.switches.Switched.refuse.Goals as goal
 

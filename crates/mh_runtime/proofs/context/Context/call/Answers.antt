@@ -5,7 +5,7 @@ use Rattle.mh_tree.specs.Meaning.{exact, generic}
 use Rattle.mh_tree.specs.Tree as tree
 use Rattle.mh_handle.specs.Answers.{IsAnswer}
 use Rattle.mh_handle.specs.Recipe.{recipe}
-use Rattle.mh_handle.proofs.Going.{goes_on-more}
+use Rattle.mh_handle.proofs.obeying.Going.{goes_on-more}
 use Rattle.mh_astype.specs.Calls.{exact_keys, generic_keys}
 use Rattle.mh_link.specs.Made.{types_of}
 use Rattle.mh_attempt.specs.Asked.{Asks}

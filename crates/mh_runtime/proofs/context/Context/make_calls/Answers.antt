@@ -4,7 +4,7 @@ use Rattle.std.specs.List.{flat_map}
 use Rattle.std.proofs.lemmas.List.Elements.{All-nil}
 use Rattle.mh_handle.specs.Answers.{AnswerView, IsAnswer}
 use Rattle.mh_handle.specs.declared.answer.Answer.{Answer}
-use Rattle.mh_handle.proofs.Going.{goes_on-still}
+use Rattle.mh_handle.proofs.obeying.Going.{goes_on-still}
 use Rattle.mh_attempt.specs.declared.error.WorkError.TheVariants.{NoMemory}
 use Rattle.mh_plan.specs.declared.call.Call.{Call}
 use Rattle.mh_plan.specs.Naming.{sites_named}

@@ -1,5 +1,5 @@
 use Rattle.std.proofs.Common.{◌≡◌, ◌∙◌, ap, refl, sym, subst, [], arith}
-use Rattle.mh_handle.proofs.Going.{goes_on-before, goes_on-more, goes_on-still}
+use Rattle.mh_handle.proofs.obeying.Going.{goes_on-before, goes_on-more, goes_on-still}
 use Rattle.mh_jobs.specs.declared.job.Job.{Job}
 use Rattle.mh_link.specs.Sites.{types_at}
 use Rattle.mh_attempt.specs.declared.error.WorkError.TheVariants.{NoMemory}

@@ -20,7 +20,7 @@ use Rattle.mh_form.specs.Erasure.{erased, erased_option, erased_ran}
 use Rattle.mh_form.proofs.Computations.{mapped-after}
 use Rattle.mh_edit.specs.Law.{ret_entry_on}
 use Rattle.mh_handle.specs.Recipe.{ret_entry_of}
-use Rattle.mh_handle.proofs.ConvertedSlots.{result-converted}
+use Rattle.mh_handle.proofs.conversions.ConvertedSlots.{result-converted}
 
 -- what runs, and then its result converted
 pub then-converted :

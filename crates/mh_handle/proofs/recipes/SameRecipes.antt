@@ -6,7 +6,7 @@ use Rattle.std.specs.Cmp.Lexicographic.{pointwise_decides, nat_list_eq_equiv, li
 use Rattle.std.proofs.lemmas.Slice.Eq.{bytes_eq-Decides}
 use Rattle.mh_edit.specs.declared.key.Key.{Key}
 use Rattle.mh_handle.specs.SameRecipes.{key_numbers, same_key, same_recipe}
-use Rattle.mh_handle.proofs.KeyNumbers.{key-one}
+use Rattle.mh_handle.proofs.recipes.KeyNumbers.{key-one}
 
 same_key-decides : (a b : Key) → Decides (same_key a b) (a ≡ b)
 same_key-decides a b = (

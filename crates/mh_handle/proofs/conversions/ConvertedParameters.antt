@@ -24,7 +24,7 @@ use Rattle.mh_edit.specs.Law.{ret_field, ret_fields}
 use Rattle.mh_handle.specs.Recipe.{are_trivial, entries_of}
 use Rattle.mh_handle.specs.Stands.{IsMade}
 use Rattle.mh_handle.specs.Converting.{conversion_between, convs_of}
-use Rattle.mh_handle.proofs.Standing.{suc-positive}
+use Rattle.mh_handle.proofs.standing.Standing.{suc-positive}
 
 -- ---- entries, conversions and parameters, one for each
 

@@ -15,7 +15,7 @@ use Rattle.std.proofs.lemmas.List.{length-set}
 use Rattle.mh_handle.specs.Chains.{AreWalks, chain_of, forms_of, learnt_by, learnt_from}
 use Rattle.mh_handle.specs.Passes.{AreLearnt, AreOneEach, IsPut}
 use Rattle.mh_setonce.proofs.Replaced.{set-either, set-here, set-there}
-use Rattle.mh_handle.proofs.Members.{IsIn, in-either, in-left, in-passing, in-right, passing-in}
+use Rattle.mh_handle.proofs.chains.Members.{IsIn, in-either, in-left, in-passing, in-right, passing-in}
 
 -- the walk of a chain has learnt the form, which belongs to the chain
 pub record LearntAt (first : ℕ) (walks : List (WalkView FormView)) (form : FormView) : Type 0 where

@@ -11,14 +11,14 @@ use Rattle.mh_setonce.specs.Walks.{StartsWith, Lacks, FindsNode}
 use Rattle.mh_setonce.specs.ManyWalks.{chains_of}
 use Rattle.mh_edit.specs.declared.key.Key.{Key}
 use Rattle.mh_base.proofs.Slices.{slice_get-push, slice_get-end}
-use Rattle.mh_handle.proofs.Learning.{has-found}
+use Rattle.mh_handle.proofs.passes.Learning.{has-found}
 use Rattle.mh_handle.specs.Form.{FormView}
 use Rattle.mh_handle.specs.Index.{recipe_of}
 use Rattle.mh_handle.specs.SameRecipes.{same_recipe}
 use Rattle.mh_handle.specs.Chains.{learnt_by}
 use Rattle.mh_handle.specs.Passes.{AreLearnt, AreOneEach, IsKept, IsPass, IsPut}
 use Rattle.mh_handle.specs.Seats.{Draws, SeatView, TableView}
-use Rattle.mh_handle.proofs.Numbers.{numbered-drawn, numbered-kept}
+use Rattle.mh_handle.proofs.passes.Numbers.{numbered-drawn, numbered-kept}
 
 pub starts-trans : {V : Type 0} (xs ys zs : List V) → StartsWith ys xs → StartsWith zs ys → StartsWith zs xs
 starts-trans xs ys zs a b = (a.0 ++ b.0, b.1 ∙ (ap (λ v. v ++ b.0) a.1 ∙ append_assoc xs a.0 b.0))

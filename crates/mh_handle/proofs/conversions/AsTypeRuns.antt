@@ -31,13 +31,13 @@ use Rattle.mh_edit.proofs.Converted.{law-Convert}
 use Rattle.mh_handle.specs.Recipe.{are_trivial, entries_of, ret_entry_of}
 use Rattle.mh_handle.specs.Stands.{HandleView, Stands, handle_body, handle_run}
 use Rattle.mh_handle.specs.Converting.{convs_of}
-use Rattle.mh_handle.proofs.ConvertedSlots.{arguments-converted}
-use Rattle.mh_handle.proofs.TrivialConversions.{all-kept, converts-ok, or_throw-ok, run-kept}
+use Rattle.mh_handle.proofs.conversions.ConvertedSlots.{arguments-converted}
+use Rattle.mh_handle.proofs.conversions.TrivialConversions.{all-kept, converts-ok, or_throw-ok, run-kept}
 use Rattle.mh_tree.specs.Sound.{Body, IsSound}
 use Rattle.mh_tree.proofs.SoundConversions.{convert-sound}
-use Rattle.mh_handle.proofs.Erasing.{returns-runs}
-use Rattle.mh_handle.proofs.ConvertedParameters.{count-convs, length-entries, lengths, some-is}
-use Rattle.mh_handle.proofs.AsTypeResults.{or_throw-erased, then-converted}
+use Rattle.mh_handle.proofs.standing.Erasing.{returns-runs}
+use Rattle.mh_handle.proofs.conversions.ConvertedParameters.{count-convs, length-entries, lengths, some-is}
+use Rattle.mh_handle.proofs.conversions.AsTypeResults.{or_throw-erased, then-converted}
 
 module _
     (by : Rules) (table : LeafTable) (are : AreClasses table.classes) (asked u : MethodTy) (h : HandleView) (t : Tree)

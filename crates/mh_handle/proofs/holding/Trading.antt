@@ -20,7 +20,7 @@ use Rattle.mh_handle.specs.declared.handle.Handle.{Handle}
 use Rattle.mh_handle.specs.declared.work.Work.{Work}
 use Rattle.mh_handle.specs.Errors.{of_check, of_intern}
 use Rattle.mh_handle.specs.Works.{IsAccepted, TradesHold, TradesTypes, types_in}
-use Rattle.mh_handle.proofs.HoldOrders.{Same, exchanges-same, exchanges-after, exchanges-few}
+use Rattle.mh_handle.proofs.holding.HoldOrders.{Same, exchanges-same, exchanges-after, exchanges-few}
 
 -- ---- handles
 

@@ -26,8 +26,8 @@ use Rattle.mh_handle.specs.Form.{body_of}
 use Rattle.mh_handle.specs.Grows.{Grows, base_handle}
 use Rattle.mh_handle.specs.Recipe.{recipe}
 use Rattle.mh_handle.specs.Stands.{HandleView, handle_body, handle_run, IsMade, Stands}
-use Rattle.mh_handle.proofs.Erasing.{returns-runs}
-use Rattle.mh_handle.proofs.Recipes.{body_of-snoc}
+use Rattle.mh_handle.proofs.standing.Erasing.{returns-runs}
+use Rattle.mh_handle.proofs.recipes.Recipes.{body_of-snoc}
 
 and-false : (a : Bool) → (a && false) ≡ false
 and-false true = refl

@@ -10,8 +10,8 @@ use Rattle.mh_handle.specs.declared.error.EditError.TheVariants.{NoMemory, Forms
 use Rattle.mh_handle.specs.Form.{FormView}
 use Rattle.mh_handle.specs.Index.{recipe_of}
 use Rattle.mh_handle.specs.Passes.{PassView, Learns, Draws, Edits, IsFormOf, IsKept, IsPut, IsUnlearnt, MakesForm, PutsAtMost, PutsAtMostOne, PutsForm}
-use Rattle.mh_handle.proofs.Passing.{lacks-same}
-use Rattle.mh_handle.proofs.Learning.{unlearnt-before}
+use Rattle.mh_handle.proofs.passes.Passing.{lacks-same}
+use Rattle.mh_handle.proofs.passes.Learning.{unlearnt-before}
 
 -- the form was asked for before
 pub edits-seen : (recipe : List Key) (pass : PassView) (form : Bor FormView) → Has recipe_of pass.asked recipe form.now → IsFormOf recipe pass form.now →

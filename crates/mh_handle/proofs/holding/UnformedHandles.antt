@@ -13,9 +13,9 @@ use Rattle.mh_handle.specs.declared.error.HandleError.TheVariants.{NoMemory, For
 use Rattle.mh_handle.specs.declared.work.Work.{Work}
 use Rattle.mh_handle.specs.Errors.{of_edit}
 use Rattle.mh_handle.specs.Works.{MakesForm, TradesForm, TradesTypes}
-use Rattle.mh_handle.proofs.HoldOrders.{exchanges-after}
-use Rattle.mh_handle.proofs.Trading.{itself}
-use Rattle.mh_handle.proofs.SingleHolds.{held-yet}
+use Rattle.mh_handle.proofs.holding.HoldOrders.{exchanges-after}
+use Rattle.mh_handle.proofs.holding.Trading.{itself}
+use Rattle.mh_handle.proofs.holding.SingleHolds.{held-yet}
 
 -- ---- the type and the form of a handle
 

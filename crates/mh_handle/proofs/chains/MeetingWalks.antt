@@ -10,8 +10,8 @@ use Rattle.mh_handle.specs.Index.{recipe_of}
 use Rattle.mh_handle.specs.Chains.{AreWalks, chain_of, learnt_by}
 use Rattle.mh_handle.specs.Passes.{DoMatch}
 use Rattle.mh_setonce.proofs.JoiningWalks.{longer-mine, longer-theirs}
-use Rattle.mh_handle.proofs.Members.{IsIn, in-left}
-use Rattle.mh_handle.proofs.ManyWalks.{learnt-at}
+use Rattle.mh_handle.proofs.chains.Members.{IsIn, in-left}
+use Rattle.mh_handle.proofs.chains.ManyWalks.{learnt-at}
 
 -- what begins with nodes has each of them
 has-first : (more nodes : List FormView) (f : FormView) → StartsWith more nodes → IsIn nodes f → IsIn more f

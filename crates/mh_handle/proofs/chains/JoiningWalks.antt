@@ -10,8 +10,8 @@ use Rattle.mh_handle.specs.Form.{FormView}
 use Rattle.mh_handle.specs.Index.{recipe_of}
 use Rattle.mh_handle.specs.Chains.{AreWalks, chain_count, learnt_by}
 use Rattle.mh_handle.specs.Passes.{AreLearnt}
-use Rattle.mh_handle.proofs.ManyWalks.{at-learnt, learnt-at, set-walks}
-use Rattle.mh_handle.proofs.MeetingWalks.{has-mine, has-theirs}
+use Rattle.mh_handle.proofs.chains.ManyWalks.{at-learnt, learnt-at, set-walks}
+use Rattle.mh_handle.proofs.chains.MeetingWalks.{has-mine, has-theirs}
 
 -- the walks of the chains before this place are the longer ones; none has two forms of one recipe
 pub record Joining (first second walks others : List (WalkView FormView)) (place : ℕ) : Type 0 where

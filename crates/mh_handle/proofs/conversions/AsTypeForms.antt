@@ -20,10 +20,10 @@ use Rattle.mh_handle.specs.Form.{body_of}
 use Rattle.mh_handle.specs.Recipe.{are_trivial, convert_keys, entries_of, recipe, ret_entry_of, at_type}
 use Rattle.mh_handle.specs.Stands.{HandleView, IsMade, Stands, handle_body}
 use Rattle.mh_handle.specs.Converting.{convs_of}
-use Rattle.mh_handle.proofs.Recipes.{body_of-snoc, recipe-converted}
-use Rattle.mh_handle.proofs.Standing.{made-reframed}
-use Rattle.mh_handle.proofs.ConvertedParameters.{params-converted, params-kept, returning-fields, returning-made, returning-params, count-convs}
-use Rattle.mh_handle.proofs.AsTypeRuns.{allowed, back, type, sound, ends, made-runs, kept-runs}
+use Rattle.mh_handle.proofs.recipes.Recipes.{body_of-snoc, recipe-converted}
+use Rattle.mh_handle.proofs.standing.Standing.{made-reframed}
+use Rattle.mh_handle.proofs.conversions.ConvertedParameters.{params-converted, params-kept, returning-fields, returning-made, returning-params, count-convs}
+use Rattle.mh_handle.proofs.conversions.AsTypeRuns.{allowed, back, type, sound, ends, made-runs, kept-runs}
 
 module _
     (by : Rules) (table : LeafTable) (are : AreClasses table.classes) (asked u : MethodTy) (h : HandleView) (t : Tree)

@@ -3,8 +3,8 @@ use Rattle.std.proofs.Common.{List, [], ◌++◌}
 use Rattle.mh_intern.specs.Exchanges.{AreHeld, Exchanges}
 use Rattle.mh_intern.specs.Views.{HoldView, SeatView}
 use Rattle.mh_intern.proofs.Exchanging.{held-still}
-use Rattle.mh_handle.proofs.HoldOrders.{exchanges-back, exchanges-same, same-swapped}
-use Rattle.mh_handle.proofs.SingleHolds.{held-swapped}
+use Rattle.mh_handle.proofs.holding.HoldOrders.{exchanges-back, exchanges-same, same-swapped}
+use Rattle.mh_handle.proofs.holding.SingleHolds.{held-swapped}
 
 -- the holds of both are handed back
 pub exchanges-backwards : (first second : List HoldView) (a b c : SeatView) → Exchanges [] second [] a b → Exchanges [] first [] b c →

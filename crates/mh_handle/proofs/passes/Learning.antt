@@ -8,7 +8,7 @@ use Rattle.mh_handle.specs.Form.{FormView}
 use Rattle.mh_handle.specs.Index.{recipe_of}
 use Rattle.mh_handle.specs.Passes.{AreLearnt, AreOneEach, DoMatch, IsUnlearnt, PassView, StaysLearnt, learnt_of}
 use Rattle.mh_handle.specs.SameRecipes.{same_recipe}
-use Rattle.mh_handle.proofs.SameRecipes.{same_recipe-decides}
+use Rattle.mh_handle.proofs.recipes.SameRecipes.{same_recipe-decides}
 
 module _ {X : Type 0} (test : X → Bool) where
   -- what is found is one of the list, and passes

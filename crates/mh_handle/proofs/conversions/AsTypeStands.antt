@@ -18,10 +18,10 @@ use Rattle.mh_handle.specs.Recipe.{are_trivial, convert_keys, entries_of, ret_en
 use Rattle.mh_intern.specs.Views.{HoldView}
 use Rattle.mh_handle.specs.Stands.{HandleView, Stands}
 use Rattle.mh_handle.specs.Converting.{IsUsedAs, convert_fields, convs_of, ret_fields_of}
-use Rattle.mh_handle.proofs.TrivialConversions.{none-converted}
-use Rattle.mh_handle.proofs.ConvertedParameters.{ret-one}
-use Rattle.mh_handle.proofs.AsTypeRuns.{back}
-use Rattle.mh_handle.proofs.AsTypeForms.{viewed, with-key, without-key}
+use Rattle.mh_handle.proofs.conversions.TrivialConversions.{none-converted}
+use Rattle.mh_handle.proofs.conversions.ConvertedParameters.{ret-one}
+use Rattle.mh_handle.proofs.conversions.AsTypeRuns.{back}
+use Rattle.mh_handle.proofs.conversions.AsTypeForms.{viewed, with-key, without-key}
 
 module _
     (by : Rules) (table : LeafTable) (are : AreClasses table.classes) (asked u : MethodTy) (h : HandleView) (t : Tree)

@@ -8,9 +8,9 @@ use Rattle.mh_handle.specs.Form.{FormView}
 use Rattle.mh_handle.specs.Joins.{unasked}
 use Rattle.mh_handle.specs.Passes.{AreLearnt, HaveNumbers, AreOneEach, IsPass}
 use Rattle.mh_handle.specs.Seats.{SeatView, joined_seats}
-use Rattle.mh_handle.proofs.JoinedForms.{is_asked}
-use Rattle.mh_handle.proofs.Members.{IsIn, in-either, passing-in}
-use Rattle.mh_handle.proofs.Numbers.{numbered-both, numbered-later}
+use Rattle.mh_handle.proofs.passes.JoinedForms.{is_asked}
+use Rattle.mh_handle.proofs.chains.Members.{IsIn, in-either, passing-in}
+use Rattle.mh_handle.proofs.passes.Numbers.{numbered-both, numbered-later}
 
 module _ (walks others walks' : List (WalkView FormView)) (made made' asked asked' : List FormView) (seat seat' new : SeatView)
     (mine : IsPass walks made asked seat) (theirs : IsPass others made' asked' seat') (joined : new ≡ joined_seats seat seat') where

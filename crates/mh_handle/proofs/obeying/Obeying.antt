@@ -17,7 +17,7 @@ use Rattle.mh_handle.specs.Grows.{Grows}
 use Rattle.mh_handle.specs.Obeys.{Obeys}
 use Rattle.mh_handle.specs.Stands.{HandleView}
 use Rattle.mh_handle.specs.Works.{IsAccepted, Makes}
-use Rattle.mh_handle.proofs.Going.{unchanged-still}
+use Rattle.mh_handle.proofs.obeying.Going.{unchanged-still}
 
 -- ---- a refusal by the rule
 

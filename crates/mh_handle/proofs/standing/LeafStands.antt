@@ -35,8 +35,8 @@ use Rattle.mh_handle.specs.declared.error.HandleError.{HandleError}
 use Rattle.mh_handle.specs.Grows.{Grows, base_handle}
 use Rattle.mh_handle.specs.Recipe.{at_type}
 use Rattle.mh_handle.specs.Stands.{HandleView, Stands}
-use Rattle.mh_handle.proofs.Erasing.{returns-runs, returned-erased}
-use Rattle.mh_handle.proofs.Standing.{stands-rooted}
+use Rattle.mh_handle.proofs.standing.Erasing.{returns-runs, returned-erased}
+use Rattle.mh_handle.proofs.standing.Standing.{stands-rooted}
 
 found-leaf : (o : Option Leaf) (ty : MethodTy) → leaf_row o ≡ Ok ty → (leaf : Leaf) × (o ≡ Some leaf) × (leaf.ty ≡ ty)
 found-leaf (Some leaf) ty e = (leaf, refl, cc)

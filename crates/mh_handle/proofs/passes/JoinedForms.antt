@@ -14,8 +14,8 @@ use Rattle.mh_handle.specs.Form.{FormView}
 use Rattle.mh_handle.specs.Index.{recipe_of}
 use Rattle.mh_handle.specs.Joins.{unasked}
 use Rattle.mh_handle.specs.SameRecipes.{same_recipe}
-use Rattle.mh_handle.proofs.Members.{IsIn, in-either, passing-in}
-use Rattle.mh_handle.proofs.SameRecipes.{same_recipe-decides}
+use Rattle.mh_handle.proofs.chains.Members.{IsIn, in-either, passing-in}
+use Rattle.mh_handle.proofs.recipes.SameRecipes.{same_recipe-decides}
 
 -- whether a form of the recipe was asked for
 abbrev pub is_asked : List FormView → List Key → Bool

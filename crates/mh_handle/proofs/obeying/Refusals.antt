@@ -11,8 +11,8 @@ use Rattle.mh_handle.specs.declared.work.Work.{Work}
 use Rattle.mh_handle.specs.Errors.{of_check}
 use Rattle.mh_handle.specs.Obeys.{Obeys}
 use Rattle.mh_handle.specs.Works.{IsUnchanged, Makes}
-use Rattle.mh_handle.proofs.Going.{makes-after}
-use Rattle.mh_handle.proofs.Obeying.{refused-makes, refused-obeys}
+use Rattle.mh_handle.proofs.obeying.Going.{makes-after}
+use Rattle.mh_handle.proofs.obeying.Obeying.{refused-makes, refused-obeys}
 
 module _ (old new : Work) (e : CheckError) (r : Result Handle HandleError) (is : r ≡ Err (of_check e)) where
   error-is : IsErrAnd r (λ x. x ≡ of_check e)

@@ -2,7 +2,7 @@
 use Rattle.std.proofs.Common.{sym, ap, ◌∙◌, ℕ, ◌+◌, ◌≤◌, arith}
 use Rattle.mh_handle.specs.declared.work.Work.{Work}
 use Rattle.mh_handle.specs.Works.{GoesOn, IsReady}
-use Rattle.mh_handle.proofs.Going.{goes_on-both, goes_on-more, goes_on-still}
+use Rattle.mh_handle.proofs.obeying.Going.{goes_on-both, goes_on-more, goes_on-still}
 
 pub goes_on-none : (numbers : ℕ) (w : Work) → GoesOn numbers w w
 goes_on-none numbers w = goes_on-more 0 numbers w w (omega arith) (goes_on-still w)

@@ -1,0 +1,9 @@
+pub mod Asked
+pub mod JoinedForms
+pub mod Learning
+pub mod Numbers
+pub mod Passing
+pub mod Edits
+pub mod JoinedPasses
+pub mod Making
+pub mod Crossing

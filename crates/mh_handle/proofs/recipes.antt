@@ -1,0 +1,4 @@
+pub mod Basics
+pub mod KeyNumbers
+pub mod SameRecipes
+pub mod Recipes

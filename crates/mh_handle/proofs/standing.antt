@@ -1,0 +1,5 @@
+pub mod Erasing
+pub mod Standing
+pub mod LeafStands
+pub mod Copying
+pub mod Answering
