@@ -8,7 +8,7 @@ use Rattle.std.proofs.Crossing.{crosses}
 use Rattle.mh_cells.proofs.cells.Cells.TheSendSync as cells
 use Rattle.mh_cells.proofs.known.Known.TheSendSync as known
 use Rattle.mh_tickets.proofs.seat.TicketSeat.TheSendSync as seat
-use Rattle.mh_handle.proofs.passes.Crossing.{answer_send, table_sync, pass_send as form_pass_send}
+use Rattle.mh_handle.proofs.passes.Crossing.{answer-send, table-sync, pass-send as form_pass_send}
 use Rattle.mh_intern.proofs.seat.TypeSeat.TheSendSync as types
 use Rattle.mh_intern.proofs.table.TypeTable.TheSendSync as type_table
 use Rattle.mh_leaves.proofs.leaves.Leaves.TheSendSync as leaves
@@ -48,8 +48,8 @@ links_send s t R g send sync =
     search (crosses, sendable) depth 20
 
 -- a pass, for a thread that is given it; and as a field of what has one
-pub pass_send : (s t : NamedLft) (R : RattleType) (g : Ghosts R.Denot) → IsSend R → IsSync R → IsSend (Pass.the_row s t R g)
-pass_send s t R g send sync =
+pub pass-send : (s t : NamedLft) (R : RattleType) (g : Ghosts R.Denot) → IsSend R → IsSync R → IsSend (Pass.the_row s t R g)
+pass-send s t R g send sync =
     let l = links_send s t R g send sync in
     let f = form_pass_send t in
     let h = types.the_send in
@@ -65,7 +65,7 @@ pass_field_send s t R g send sync =
 -- what the calls of a thread gave, as a field
 run_field_send : IsSend ThreadRun.the_field.row
 run_field_send =
-    let a = seq.the_send Answer.the_row answer_send in
+    let a = seq.the_send Answer.the_row answer-send in
     let e = error.the_send in
     search (crosses, sendable) depth 20
 
@@ -98,7 +98,7 @@ linker_sync t R g send sync =
     let s = sites_sync t R g send sync in
     let l = leaves.the_sync in
     let y = type_table.the_sync in
-    search (table_sync, crosses, sendable) depth 40
+    search (table-sync, crosses, sendable) depth 40
 
 pub plan_sync : IsSync (Plan.the_row (Plan.the_row Call.the_row))
 plan_sync = seq.the_sync (Plan.the_row Call.the_row) (seq.the_sync Call.the_row call.the_sync)

@@ -19,35 +19,35 @@ use Rattle.mh_handle.specs.contracts.pass.FormPass as FormPass
 use Rattle.mh_handle.specs.contracts.seat.FormSeat as FormSeat
 use Rattle.mh_handle.specs.contracts.table.FormTable as FormTable
 
-pub form_sync : IsSync Form.the_row
-form_sync = form.the_sync
+pub form-sync : IsSync Form.the_row
+form-sync = form.the_sync
 
-pub table_sync : IsSync FormTable.the_row
-table_sync = table.the_sync
+pub table-sync : IsSync FormTable.the_row
+table-sync = table.the_sync
 
 -- what Rattle shows of the seat's parts; of the seat itself it shows nothing, since the seat has a snapshot
-seat_send : IsSend FormSeat.the_row
-seat_send = let t = tickets.the_send in search (crosses, sendable) depth 20
+seat-send : IsSend FormSeat.the_row
+seat-send = let t = tickets.the_send in search (crosses, sendable) depth 20
 
 -- by what was shown of each part, since a search that goes down through them all runs out of steps
-pub pass_send : (ℓ : NamedLft) → IsSend (FormPass.the_row ℓ)
-pass_send ℓ =
+pub pass-send : (ℓ : NamedLft) → IsSend (FormPass.the_row ℓ)
+pass-send ℓ =
     let w = walks.the_send ℓ in
     let s = seen.the_send ℓ in
     let f = form.the_sync in
-    let e = seat_send in
+    let e = seat-send in
     search (crosses, sendable) depth 20
 
 -- of leaf calls Rattle shows nothing by itself, since they have snapshots of their arguments
-calls_send : IsSend Calls.the_row
-calls_send = search (crosses, sendable) depth 20
+calls-send : IsSend Calls.the_row
+calls-send = search (crosses, sendable) depth 20
 
 -- the fields of an answer, and so the answer
-inside_send : IsSend inside.the_row
-inside_send =
+inside-send : IsSend inside.the_row
+inside-send =
     let s = shape inside.the_type in
-    let parts : AllSend s.fields = (search (value.the_send, exc.the_send, crosses, sendable) depth 40, (calls_send, (search sendable, tt))) in
+    let parts : AllSend s.fields = (search (value.the_send, exc.the_send, crosses, sendable) depth 40, (calls-send, (search sendable, tt))) in
     recorded_send (Struct s) inside.the_type.D inside.the_type.to inside.the_type.to_one (struct_send s parts)
 
-pub answer_send : IsSend Answer.the_row
-answer_send = view_send inside.the_row _ _ _ _ inside_send
+pub answer-send : IsSend Answer.the_row
+answer-send = view_send inside.the_row _ _ _ _ inside-send
