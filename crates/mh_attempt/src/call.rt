@@ -22,7 +22,7 @@ fn frozen(alloc: Global, arguments: Seq<Argument>) -> Result<Frozen<Argument>, N
 }
 
 /// The static arguments of a bootstrap method. A dynamic constant among them is unsupported.
-#[tactic(auto, using(crate::proofs::Resolving::resolving))]
+#[tactic(auto, using(crate::proofs::linking::Resolving::resolving))]
 fn arguments_of(alloc: Global, arguments: &StaticArguments) -> Result<Frozen<Argument>, CheckError>
     ensures { Tells result (resolved nothing_known arguments.now) }
 {

@@ -85,7 +85,7 @@ struct Linked {
 }
 
 // What a run gave whose threads were joined, and the seat of types that holds what is recorded.
-#[tactic(auto, using(crate::proofs::OutsideStops::outside_joined))]
+#[tactic(auto, using(crate::proofs::reports::OutsideStops::outside_joined))]
 fn report<J: Run, R: Wait>(
     rt: &R,
     alloc: Global,
@@ -151,7 +151,7 @@ fn run_lanes<
 }
 
 // Runs a plan, whose threads' passes are split off this one.
-#[tactic(auto, using(crate::proofs::OutsideStops::outside_on))]
+#[tactic(auto, using(crate::proofs::reports::OutsideStops::outside_on))]
 fn run_pass<
     's,
     't,
@@ -187,7 +187,7 @@ fn run_pass<
 
 // The pass that those of the plan's threads are split off: the first one, once all call sites are
 // linked, if there are workers.
-#[tactic(auto, using(crate::proofs::OutsideStops::outside_steps))]
+#[tactic(auto, using(crate::proofs::reports::OutsideStops::outside_steps))]
 fn base_pass<'s, 't, J: Run + Send + Sync, R: Threads + Wait + Sync, G: Gate + Sync>(
     rt: &R,
     prelinking: &Prelinking<'s, 't, J, G>,
@@ -218,7 +218,7 @@ fn base_pass<'s, 't, J: Run + Send + Sync, R: Threads + Wait + Sync, G: Gate + S
 }
 
 // Runs a plan with a linker that is new, and with seats that have all the room.
-#[tactic(auto, using(crate::proofs::OutsideStops::outside_steps))]
+#[tactic(auto, using(crate::proofs::reports::OutsideStops::outside_steps))]
 fn run_linked<'t, J: Run + Send + Sync, R: Threads + Wait + Sync, G: Gate + Sync>(
     rt: &R,
     linker: Linker<'t, J>,
@@ -254,7 +254,7 @@ fn run_linked<'t, J: Run + Send + Sync, R: Threads + Wait + Sync, G: Gate + Sync
 
 // Runs a plan of what the run's type parameter names. Once all is joined, the table of types has
 // the types of the recorded targets and no others.
-#[tactic(auto, using(crate::proofs::OutsideStops::outside_steps))]
+#[tactic(auto, using(crate::proofs::reports::OutsideStops::outside_steps))]
 fn run_named<J: Run + Send + Sync, R: Threads + Wait + Sync, G: Gate + Sync>(
     rt: &R,
     input: &Input<'_, G>,

@@ -1,6 +1,6 @@
 use denote.Param.Send.{sendable}
 use Rattle.std.proofs.Crossing.{crosses}
-use Rattle.mh_runtime.proofs.Crossing.{linker_sync, pass_send}
+use Rattle.mh_runtime.proofs.lanes.Crossing.{linker_sync, pass_send}
 use Rattle.mh_embed.proofs.call_from_both.Goals as goal
 
 pub join_mut-first-requires-send-F : goal.join_mut-first-requires-send-F

@@ -1,7 +1,7 @@
 use Rattle.std.proofs.Common.{Ok}
-use Rattle.mh_attempt.proofs.Holding.{linkage-of}
-use Rattle.mh_attempt.proofs.SiteEdits.{asks-edits, edits-stopped}
-use Rattle.mh_attempt.proofs.SiteTypes.{asked-site, stopped-site}
+use Rattle.mh_attempt.proofs.linking.Holding.{linkage-of}
+use Rattle.mh_attempt.proofs.beginnings.SiteEdits.{asks-edits, edits-stopped}
+use Rattle.mh_attempt.proofs.types.SiteTypes.{asked-site, stopped-site}
 use Rattle.mh_attempt.proofs.attempts.attempt.Goals as goal
 
 pub returns-in_err-linked-clause-asks : goal.returns-in_err-linked-clause-asks

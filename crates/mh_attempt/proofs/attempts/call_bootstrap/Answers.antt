@@ -6,10 +6,10 @@ use Rattle.mh_handle.specs.Recipe.{recipe}
 use Rattle.mh_attempt.specs.AskedTypes.{script_types, target_types}
 use Rattle.mh_attempt.specs.Linkage.{target_recipes}
 use Rattle.mh_attempt.specs.Recipes.{script_recipes}
-use Rattle.mh_attempt.proofs.AskedLines.{same-asks}
-use Rattle.mh_attempt.proofs.AskingRuns.{same-types}
-use Rattle.mh_attempt.proofs.Outcomes.{called-recipes, called-target, called-types, joined-recipes, joined-target, joined-types}
-use Rattle.mh_attempt.proofs.Running.{same-target}
+use Rattle.mh_attempt.proofs.asked.AskedLines.{same-asks}
+use Rattle.mh_attempt.proofs.types.AskingRuns.{same-types}
+use Rattle.mh_attempt.proofs.linking.Outcomes.{called-recipes, called-target, called-types, joined-recipes, joined-target, joined-types}
+use Rattle.mh_attempt.proofs.running.Running.{same-target}
 use Rattle.mh_attempt.proofs.attempts.call_bootstrap.Goals as goal
 
 -- ---- a script

@@ -5,10 +5,10 @@ use Rattle.mh_attempt.specs.AskedTypes.{AsksTypesOrThrows, script_types}
 use Rattle.mh_attempt.specs.Lines.{TellsTarget}
 use Rattle.mh_attempt.specs.Recipes.{script_recipes}
 use Rattle.mh_attempt.specs.Registers.{holds_in}
-use Rattle.mh_attempt.proofs.AskedLines.{asks-given_back}
-use Rattle.mh_attempt.proofs.AskingTypes.{types-back}
-use Rattle.mh_attempt.proofs.Outcomes.{start-holds, start-kept, start-may}
-use Rattle.mh_attempt.proofs.RunCalls.{called-adds, called-goes_on, called-kept}
+use Rattle.mh_attempt.proofs.asked.AskedLines.{asks-given_back}
+use Rattle.mh_attempt.proofs.types.AskingTypes.{types-back}
+use Rattle.mh_attempt.proofs.linking.Outcomes.{start-holds, start-kept, start-may}
+use Rattle.mh_attempt.proofs.running.RunCalls.{called-adds, called-goes_on, called-kept}
 use Rattle.mh_attempt.proofs.attempts.run_script.Goals as goal
 
 pub run_lines-target-requires : goal.run_lines-target-requires

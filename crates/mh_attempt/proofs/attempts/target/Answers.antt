@@ -1,11 +1,11 @@
 use Rattle.mh_attempt.specs.AskedTypes.{job_types, target_types}
 use Rattle.mh_attempt.specs.Linkage.{target_recipes}
 use Rattle.mh_attempt.specs.Recipes.{attempt_recipes}
-use Rattle.mh_attempt.proofs.Adding.{adds-none, adds-unmade}
-use Rattle.mh_attempt.proofs.AskedLines.{same-asks}
-use Rattle.mh_attempt.proofs.AskingRuns.{same-types}
-use Rattle.mh_attempt.proofs.JobCalls.{job-leaves, job-method}
-use Rattle.mh_attempt.proofs.Outcomes.{job-asked, job-types}
+use Rattle.mh_attempt.proofs.types.Adding.{adds-none, adds-unmade}
+use Rattle.mh_attempt.proofs.asked.AskedLines.{same-asks}
+use Rattle.mh_attempt.proofs.types.AskingRuns.{same-types}
+use Rattle.mh_attempt.proofs.linking.JobCalls.{job-leaves, job-method}
+use Rattle.mh_attempt.proofs.linking.Outcomes.{job-asked, job-types}
 use Rattle.mh_attempt.proofs.attempts.target.Goals as goal
 
 pub call_bootstrap-requires-clause-method : goal.call_bootstrap-requires-clause-method

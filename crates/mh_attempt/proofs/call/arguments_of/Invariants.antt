@@ -1,4 +1,4 @@
-use Rattle.mh_attempt.proofs.Resolving.{AreFound}
+use Rattle.mh_attempt.proofs.linking.Resolving.{AreFound}
 use Rattle.mh_attempt.proofs.call.arguments_of.Given as goal
 
 abbrev pub invariant-loop-part : goal.invariant-loop-part

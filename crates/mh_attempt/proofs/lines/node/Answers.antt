@@ -1,6 +1,6 @@
-use Rattle.mh_attempt.proofs.Adding.{adds-none, adds-unmade}
-use Rattle.mh_attempt.proofs.MadeOperations.{operation-made, operation-refused}
-use Rattle.mh_attempt.proofs.NodeOperands.{are-operands}
+use Rattle.mh_attempt.proofs.types.Adding.{adds-none, adds-unmade}
+use Rattle.mh_attempt.proofs.nodes.MadeOperations.{operation-made, operation-refused}
+use Rattle.mh_attempt.proofs.nodes.NodeOperands.{are-operands}
 use Rattle.mh_attempt.specs.Nodes.{parts_of}
 use Rattle.mh_attempt.proofs.lines.node.Goals as goal
 

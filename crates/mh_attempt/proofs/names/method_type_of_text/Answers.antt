@@ -1,6 +1,6 @@
 use Rattle.mh_values.specs.Descriptor.{desc}
 use Rattle.mh_jobs.specs.Thrown.{plainly}
-use Rattle.mh_attempt.proofs.Telling.{no_type-tells}
+use Rattle.mh_attempt.proofs.nodes.Telling.{no_type-tells}
 use Rattle.mh_attempt.proofs.names.method_type_of_text.Goals as goal
 
 pub returns-in-Err : goal.returns-in-Err

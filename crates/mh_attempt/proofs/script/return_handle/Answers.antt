@@ -8,11 +8,11 @@ use Rattle.mh_handle.specs.declared.error.HandleError.TheVariants.{NoMemory}
 use Rattle.mh_handle.specs.declared.handle.Handle.{Handle}
 use Rattle.mh_handle.specs.Works.{leaves_of}
 use Rattle.mh_attempt.specs.AskedTypes.{AsksTypesOrThrows, end_types}
-use Rattle.mh_attempt.proofs.Adding.{adds-none, adds-unmade}
-use Rattle.mh_attempt.proofs.AskedOperations.{alone-asks, asks-node}
-use Rattle.mh_attempt.proofs.AskingRuns.{alone-types}
-use Rattle.mh_attempt.proofs.AskingTypes.{no_other-still, types-handed, types-refused}
-use Rattle.mh_attempt.proofs.Endings.{mismatched-node, returned-given, returned-node}
+use Rattle.mh_attempt.proofs.types.Adding.{adds-none, adds-unmade}
+use Rattle.mh_attempt.proofs.asked.AskedOperations.{alone-asks, asks-node}
+use Rattle.mh_attempt.proofs.types.AskingRuns.{alone-types}
+use Rattle.mh_attempt.proofs.types.AskingTypes.{no_other-still, types-handed, types-refused}
+use Rattle.mh_attempt.proofs.running.Endings.{mismatched-node, returned-given, returned-node}
 use Rattle.mh_attempt.proofs.script.return_handle.Goals as goal
 
 pub returns-then-not-is_same_method_type-clause-node : goal.returns-then-not-is_same_method_type-clause-node

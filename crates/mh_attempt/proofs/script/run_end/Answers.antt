@@ -5,8 +5,8 @@ use Rattle.mh_attempt.specs.Asked.{AsksOrThrows}
 use Rattle.mh_attempt.specs.AskedTypes.{AsksTypesOrThrows, end_types}
 use Rattle.mh_attempt.specs.Lines.{MakesNode}
 use Rattle.mh_attempt.specs.Recipes.{end_recipes}
-use Rattle.mh_attempt.proofs.Adding.{adds-none, adds-unmade}
-use Rattle.mh_attempt.proofs.AskingTypes.{no_other-still, types-refused}
+use Rattle.mh_attempt.proofs.types.Adding.{adds-none, adds-unmade}
+use Rattle.mh_attempt.proofs.types.AskingTypes.{no_other-still, types-refused}
 use Rattle.mh_attempt.proofs.script.run_end.Goals as goal
 
 pub returns-in-Return-clause-node : goal.returns-in-Return-clause-node

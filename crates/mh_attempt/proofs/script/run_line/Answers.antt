@@ -1,9 +1,9 @@
 use Rattle.std.proofs.Common.{sym, subst, Ok}
 use Rattle.mh_attempt.specs.Runs.{RunsStep}
-use Rattle.mh_attempt.proofs.Adding.{of-types}
-use Rattle.mh_attempt.proofs.RunSteps.{let-runs, pass-runs, serial-runs}
-use Rattle.mh_attempt.proofs.RoomyRegisters.{made-kept, number-kept, roomy-kept, roomy-some}
-use Rattle.mh_attempt.proofs.FailedSteps.{node-fails, pass-fails, reserve-fails}
+use Rattle.mh_attempt.proofs.types.Adding.{of-types}
+use Rattle.mh_attempt.proofs.running.RunSteps.{let-runs, pass-runs, serial-runs}
+use Rattle.mh_attempt.proofs.assigned.RoomyRegisters.{made-kept, number-kept, roomy-kept, roomy-some}
+use Rattle.mh_attempt.proofs.running.FailedSteps.{node-fails, pass-fails, reserve-fails}
 use Rattle.mh_attempt.proofs.script.run_line.Goals as goal
 
 -- ---- `let`

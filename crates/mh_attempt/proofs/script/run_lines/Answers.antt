@@ -1,11 +1,11 @@
 use Rattle.std.proofs.Common.{◌<◌, ◌≤◌, ◌+◌, refl, sym, subst, drop, length, arith, rules}
 use Rattle.mh_base.proofs.Lists.{drop_item}
 use Rattle.mh_script.specs.Limits.{CanDivide}
-use Rattle.mh_attempt.proofs.RegisterContents.{drop_all}
-use Rattle.mh_attempt.proofs.RunEnds.{run-ends}
-use Rattle.mh_attempt.proofs.RunFails.{run-fails}
-use Rattle.mh_attempt.proofs.RunLines.{HasRun, run-next, run-none}
-use Rattle.mh_attempt.proofs.NextLine.{next-kept, next-ready, next-serial, next-some}
+use Rattle.mh_attempt.proofs.assigned.RegisterContents.{drop_all}
+use Rattle.mh_attempt.proofs.running.RunEnds.{run-ends}
+use Rattle.mh_attempt.proofs.running.RunFails.{run-fails}
+use Rattle.mh_attempt.proofs.running.RunLines.{HasRun, run-next, run-none}
+use Rattle.mh_attempt.proofs.running.NextLine.{next-kept, next-ready, next-serial, next-some}
 use Rattle.mh_attempt.proofs.script.run_lines.Goals as goal
 
 pub loop-step-init : goal.loop-step-init

@@ -1,5 +1,5 @@
 use Rattle.std.proofs.Common.{drop}
-use Rattle.mh_attempt.proofs.RunLines.{HasRun}
+use Rattle.mh_attempt.proofs.running.RunLines.{HasRun}
 use Rattle.mh_attempt.proofs.script.run_lines.Given as goal
 
 -- what the lines so far have left

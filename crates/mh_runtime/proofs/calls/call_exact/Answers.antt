@@ -7,11 +7,11 @@ use Rattle.mh_handle.specs.Answers.{IsAnswer}
 use Rattle.mh_handle.specs.Recipe.{recipe}
 use Rattle.mh_astype.specs.Calls.{exact_keys}
 use Rattle.mh_link.specs.Made.{types_of}
-use Rattle.mh_attempt.proofs.Adding.{holds-came}
-use Rattle.mh_runtime.proofs.Calling.{asks-back, moved}
-use Rattle.mh_runtime.proofs.LeafTypes.{memory-asks}
-use Rattle.mh_runtime.proofs.SeatAsked.{asks-still}
-use Rattle.mh_runtime.proofs.SeatTypes.{keeps-adds, keeps-back}
+use Rattle.mh_attempt.proofs.types.Adding.{holds-came}
+use Rattle.mh_runtime.proofs.forms.Calling.{asks-back, moved}
+use Rattle.mh_runtime.proofs.asking.LeafTypes.{memory-asks}
+use Rattle.mh_runtime.proofs.asking.SeatAsked.{asks-still}
+use Rattle.mh_runtime.proofs.types.SeatTypes.{keeps-adds, keeps-back}
 use Rattle.mh_runtime.proofs.calls.call_exact.Goals as goal
 
 pub returns-clause-answer : goal.returns-clause-answer

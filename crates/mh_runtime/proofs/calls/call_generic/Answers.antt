@@ -11,14 +11,14 @@ use Rattle.mh_handle.proofs.obeying.Going.{goes_on-before, goes_on-both, seated-
 use Rattle.mh_intern.specs.Exchanges.{Exchanges}
 use Rattle.mh_branch.proofs.Trading.{held-same}
 use Rattle.mh_link.specs.Made.{types_of}
-use Rattle.mh_attempt.proofs.Adding.{holds-came}
+use Rattle.mh_attempt.proofs.types.Adding.{holds-came}
 use Rattle.mh_attempt.specs.AskedTypes.{AsksNoOther}
 use Rattle.mh_astype.specs.Calls.{generic_keys}
 use Rattle.mh_report.specs.Forms.{used_edits}
-use Rattle.mh_runtime.proofs.Calling.{asks-generic, asks-handed, moved, stopped-early}
-use Rattle.mh_runtime.proofs.LeafTypes.{edit-asks}
-use Rattle.mh_runtime.proofs.SeatAsked.{asks-still}
-use Rattle.mh_runtime.proofs.SeatTypes.{keeps-adds, keeps-back}
+use Rattle.mh_runtime.proofs.forms.Calling.{asks-generic, asks-handed, moved, stopped-early}
+use Rattle.mh_runtime.proofs.asking.LeafTypes.{edit-asks}
+use Rattle.mh_runtime.proofs.asking.SeatAsked.{asks-still}
+use Rattle.mh_runtime.proofs.types.SeatTypes.{keeps-adds, keeps-back}
 use Rattle.mh_runtime.proofs.calls.call_generic.Goals as goal
 
 pub returns-in_err-handle-clause-asks : goal.returns-in_err-handle-clause-asks

@@ -4,8 +4,8 @@ use Rattle.mh_tree.specs.Typing.{type_of}
 use Rattle.mh_handle.specs.declared.error.HandleError.TheVariants.{NoMemory, FormsFull, TypesFull}
 use Rattle.mh_handle.specs.Recipe.{recipe}
 use Rattle.mh_handle.specs.Works.{Makes, TradesTypes, types_in}
-use Rattle.mh_attempt.proofs.AskedNodes.{asks-made}
-use Rattle.mh_runtime.proofs.LeafTypes.{leaf-asks}
+use Rattle.mh_attempt.proofs.asked.AskedNodes.{asks-made}
+use Rattle.mh_runtime.proofs.asking.LeafTypes.{leaf-asks}
 use Rattle.mh_runtime.proofs.calls.leaf_handle.Goals as goal
 
 pub returns-in-Ok-clause-asks : goal.returns-in-Ok-clause-asks

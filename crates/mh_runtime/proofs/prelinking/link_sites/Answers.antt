@@ -1,8 +1,8 @@
 use denote.Param.Send.{sendable}
 use Rattle.std.proofs.Common.{length}
 use Rattle.std.proofs.Crossing.{crosses}
-use Rattle.mh_runtime.proofs.Crossing.{linker_sync, pass_send, plan_sync}
-use Rattle.mh_runtime.proofs.WorkersJoined.{prelinked-of}
+use Rattle.mh_runtime.proofs.lanes.Crossing.{linker_sync, pass_send, plan_sync}
+use Rattle.mh_runtime.proofs.workers.WorkersJoined.{prelinked-of}
 use Rattle.mh_runtime.proofs.prelinking.link_sites.Goals as goal
 
 pub share_out-requires-send-T-Pass : goal.share_out-requires-send-T-Pass

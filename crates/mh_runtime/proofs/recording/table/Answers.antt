@@ -4,7 +4,7 @@ use Rattle.std.proofs.lemmas.Option.{slice_get_read}
 use Rattle.mh_report.specs.declared.table.Recorded.{Recorded}
 use Rattle.mh_report.specs.Recorded.{recorded_at}
 use Rattle.mh_report.specs.Results.{Serials, serial_at}
-use Rattle.mh_runtime.proofs.RecordedSites.{entry-within, owned-more, recorded-more}
+use Rattle.mh_runtime.proofs.ledger.RecordedSites.{entry-within, owned-more, recorded-more}
 use Rattle.mh_runtime.proofs.recording.table.Goals as goal
 
 pub loop-site-preserved : goal.loop-site-preserved

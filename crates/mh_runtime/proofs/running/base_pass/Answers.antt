@@ -1,5 +1,5 @@
 use Rattle.std.proofs.Common.{◌<◌, ℕ, arith}
-use Rattle.mh_runtime.proofs.BaseRuns.{base-first, base-prelinked, worker-full, worker-no-slot, worker-stop}
+use Rattle.mh_runtime.proofs.workers.BaseRuns.{base-first, base-prelinked, worker-full, worker-no-slot, worker-stop}
 use Rattle.mh_runtime.proofs.running.base_pass.Goals as goal
 
 pub returns-then-prelinking-eq0-clause-base : goal.returns-then-prelinking-eq0-clause-base

@@ -1,6 +1,6 @@
 use denote.Param.Send.{sendable}
 use Rattle.std.proofs.Crossing.{crosses}
-use Rattle.mh_runtime.proofs.Crossing.{lane_send, linker_sync, plan_sync}
+use Rattle.mh_runtime.proofs.lanes.Crossing.{lane_send, linker_sync, plan_sync}
 use Rattle.mh_runtime.proofs.running.run_lanes.Goals as goal
 
 pub fork_join-requires-send-T-Lane : goal.fork_join-requires-send-T-Lane

@@ -1,4 +1,4 @@
-use Rattle.mh_runtime.proofs.BaseRuns.{base-of, base-room, full-reported, linked-reported, no-slot-reported, stop-reported}
+use Rattle.mh_runtime.proofs.workers.BaseRuns.{base-of, base-room, full-reported, linked-reported, no-slot-reported, stop-reported}
 use Rattle.mh_runtime.proofs.running.run_linked.Goals as goal
 
 pub run_pass-requires-clause-pass : goal.run_pass-requires-clause-pass

@@ -2,7 +2,7 @@ use Rattle.std.proofs.Common.{length, sym, subst}
 use Rattle.mh_runtime.specs.declared.pass.Pass.{Pass}
 use Rattle.mh_runtime.specs.Bases.{base_of}
 use Rattle.mh_runtime.specs.Joining.{AreAllJoined, HasRoomFor}
-use Rattle.mh_runtime.proofs.BaseRuns.{run-on, stopped-on}
+use Rattle.mh_runtime.proofs.workers.BaseRuns.{run-on, stopped-on}
 use Rattle.mh_runtime.proofs.running.run_pass.Goals as goal
 
 pub run_lanes-requires-clause-room : goal.run_lanes-requires-clause-room

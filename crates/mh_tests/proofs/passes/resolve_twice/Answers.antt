@@ -1,6 +1,6 @@
 use Rattle.std.proofs.Common.{length, ℕ, arith}
 use Rattle.mh_runtime.specs.Linkers.{HasRoom}
-use Rattle.mh_runtime.proofs.CallRoom.{all_room}
+use Rattle.mh_runtime.proofs.lanes.CallRoom.{all_room}
 use Rattle.mh_tests.proofs.passes.resolve_twice.Goals as goal
 
 -- after a split the first pass has room for two calls

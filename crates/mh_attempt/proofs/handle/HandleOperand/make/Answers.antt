@@ -5,14 +5,14 @@ use Rattle.mh_handle.specs.Recipe.{recipe}
 use Rattle.mh_handle.specs.Works.{Makes}
 use Rattle.mh_attempt.specs.Cases.{leaf_recipe}
 use Rattle.mh_attempt.specs.Registers.{IsHeldIn}
-use Rattle.mh_attempt.proofs.Adding.{adds-made, adds-unmade}
-use Rattle.mh_attempt.proofs.AskedLines.{asks-handed}
-use Rattle.mh_attempt.proofs.AskedOperands.{asks-leaf}
+use Rattle.mh_attempt.proofs.types.Adding.{adds-made, adds-unmade}
+use Rattle.mh_attempt.proofs.asked.AskedLines.{asks-handed}
+use Rattle.mh_attempt.proofs.asked.AskedOperands.{asks-leaf}
 use Rattle.mh_attempt.specs.AskedTypes.{types_made}
-use Rattle.mh_attempt.proofs.AskingTypes.{types-copied, types-handed, types-uncopied}
-use Rattle.mh_attempt.proofs.OperandTypes.{types-leaf}
-use Rattle.mh_attempt.proofs.Once.{copy-draws, copy-learns, made-draws, made-learns}
-use Rattle.mh_attempt.proofs.SwitchNodes.{leaf-recipe}
+use Rattle.mh_attempt.proofs.types.AskingTypes.{types-copied, types-handed, types-uncopied}
+use Rattle.mh_attempt.proofs.types.OperandTypes.{types-leaf}
+use Rattle.mh_attempt.proofs.asked.Once.{copy-draws, copy-learns, made-draws, made-learns}
+use Rattle.mh_attempt.proofs.nodes.SwitchNodes.{leaf-recipe}
 use Rattle.mh_attempt.proofs.handle.HandleOperand.make.Goals as goal
 
 pub copy-requires-clause-held : goal.copy-requires-clause-held

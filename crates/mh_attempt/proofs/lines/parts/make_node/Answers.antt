@@ -5,8 +5,8 @@ use Rattle.mh_link.specs.Operations.{use_of}
 use Rattle.mh_attempt.specs.Cases.{StandForEach}
 use Rattle.mh_attempt.specs.Nodes.{AreAllOperands, AreOperands}
 use Rattle.mh_attempt.specs.Operations.{MakesOf}
-use Rattle.mh_attempt.proofs.MadeNodes.{for-asked, of-leaf, of-root}
-use Rattle.mh_attempt.proofs.NodeOperands.{made-for}
+use Rattle.mh_attempt.proofs.nodes.MadeNodes.{for-asked, of-leaf, of-root}
+use Rattle.mh_attempt.proofs.nodes.NodeOperands.{made-for}
 use Rattle.mh_attempt.proofs.lines.parts.make_node.Goals as goal
 
 pub returns-in-Leaf : goal.returns-in-Leaf

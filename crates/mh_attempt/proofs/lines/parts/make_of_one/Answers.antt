@@ -3,10 +3,10 @@ use Rattle.mh_handle.specs.declared.handle.Handle.{Handle}
 use Rattle.mh_handle.proofs.obeying.Going.{goes_on-more}
 use Rattle.mh_handle.proofs.obeying.Rooms.{goes_on-sum, ready-after}
 use Rattle.mh_attempt.specs.Nodes.{one_tree}
-use Rattle.mh_attempt.proofs.Adding.{holds-came}
-use Rattle.mh_attempt.proofs.LineNodes.{stands-yet}
-use Rattle.mh_attempt.proofs.MadeNodes.{of-refused, of-ruled, of-unmade}
-use Rattle.mh_attempt.proofs.NodeRules.{one-alone, one-ruled, typed-handle}
+use Rattle.mh_attempt.proofs.types.Adding.{holds-came}
+use Rattle.mh_attempt.proofs.nodes.LineNodes.{stands-yet}
+use Rattle.mh_attempt.proofs.nodes.MadeNodes.{of-refused, of-ruled, of-unmade}
+use Rattle.mh_attempt.proofs.nodes.NodeRules.{one-alone, one-ruled, typed-handle}
 use Rattle.mh_attempt.proofs.lines.parts.make_of_one.Goals as goal
 
 pub returns-in_err-ty : goal.returns-in_err-ty

@@ -4,10 +4,10 @@ use Rattle.mh_handle.proofs.obeying.Going.{goes_on-more}
 use Rattle.mh_handle.proofs.obeying.Rooms.{goes_on-sum, ready-after, ready-less}
 use Rattle.mh_more.specs.declared.switches.Switched.{Switched}
 use Rattle.mh_more.specs.Several.{holds_of}
-use Rattle.mh_attempt.proofs.Adding.{holds-came}
-use Rattle.mh_attempt.proofs.LineNodes.{stands-yet}
-use Rattle.mh_attempt.proofs.MadeNodes.{of-refused, of-ruled, of-unmade}
-use Rattle.mh_attempt.proofs.SwitchNodes.{all-stand, cases-yet, switch-alike, switch-light, switch-ruled}
+use Rattle.mh_attempt.proofs.types.Adding.{holds-came}
+use Rattle.mh_attempt.proofs.nodes.LineNodes.{stands-yet}
+use Rattle.mh_attempt.proofs.nodes.MadeNodes.{of-refused, of-ruled, of-unmade}
+use Rattle.mh_attempt.proofs.nodes.SwitchNodes.{all-stand, cases-yet, switch-alike, switch-light, switch-ruled}
 use Rattle.mh_attempt.proofs.lines.parts.make_switch.Goals as goal
 
 pub switch_type-requires-clause-cases : goal.switch_type-requires-clause-cases

@@ -1,7 +1,7 @@
 use Rattle.std.proofs.Common.{◌∙◌, sym, ap, [], ◌∷◌, Ok}
 use Rattle.std.specs.Prelude.{length}
 use Rattle.mh_tree.specs.Tree as tree
-use Rattle.mh_attempt.proofs.SwitchNodes.{switch-told}
+use Rattle.mh_attempt.proofs.nodes.SwitchNodes.{switch-told}
 use Rattle.mh_attempt.proofs.lines.parts.switch_type.Goals as goal
 
 pub returns : goal.returns

@@ -5,13 +5,13 @@ use Rattle.mh_handle.proofs.obeying.Rooms.{ready-less}
 use Rattle.mh_attempt.specs.AskedTypes.{types_made}
 use Rattle.mh_attempt.specs.Cases.{AreLeavesOfType, leaf_recipe, own_weight, own_weights}
 use Rattle.mh_attempt.specs.Recipes.{recipes_made}
-use Rattle.mh_attempt.proofs.Adding.{adds-back, adds-both, holds-after}
-use Rattle.mh_attempt.proofs.AllMade.{operands-yet}
-use Rattle.mh_attempt.proofs.AskedNodes.{asks-unchanged}
-use Rattle.mh_attempt.proofs.AskedOperands.{asks-more, asks-unmade-both}
-use Rattle.mh_attempt.proofs.AskingTypes.{types-back}
-use Rattle.mh_attempt.proofs.OperandTypes.{types-others, types-unmade_both}
-use Rattle.mh_attempt.proofs.Once.{once-back, once-goes, once-ready, once-then, ready-others}
+use Rattle.mh_attempt.proofs.types.Adding.{adds-back, adds-both, holds-after}
+use Rattle.mh_attempt.proofs.asked.AllMade.{operands-yet}
+use Rattle.mh_attempt.proofs.asked.AskedNodes.{asks-unchanged}
+use Rattle.mh_attempt.proofs.asked.AskedOperands.{asks-more, asks-unmade-both}
+use Rattle.mh_attempt.proofs.types.AskingTypes.{types-back}
+use Rattle.mh_attempt.proofs.types.OperandTypes.{types-others, types-unmade_both}
+use Rattle.mh_attempt.proofs.asked.Once.{once-back, once-goes, once-ready, once-then, ready-others}
 use Rattle.mh_attempt.proofs.lines.several.make_cases.Goals as goal
 
 -- ---- numbers

@@ -4,11 +4,11 @@ use Rattle.mh_handle.specs.declared.handle.Handle.{Handle}
 use Rattle.mh_handle.proofs.obeying.Rooms.{goes_on-sum}
 use Rattle.mh_attempt.specs.AskedTypes.{types_made}
 use Rattle.mh_attempt.specs.Recipes.{recipes_made}
-use Rattle.mh_attempt.proofs.AskedNodes.{asks-unchanged}
-use Rattle.mh_attempt.proofs.AskedOperands.{asks-more, asks-unmade-both}
-use Rattle.mh_attempt.proofs.Adding.{adds-back-both, adds-three, holds-after, holds-first, holds-second, of-types, operand-yet}
-use Rattle.mh_attempt.proofs.AskingTypes.{types-back}
-use Rattle.mh_attempt.proofs.OperandTypes.{types-others, types-unmade_both}
+use Rattle.mh_attempt.proofs.asked.AskedNodes.{asks-unchanged}
+use Rattle.mh_attempt.proofs.asked.AskedOperands.{asks-more, asks-unmade-both}
+use Rattle.mh_attempt.proofs.types.Adding.{adds-back-both, adds-three, holds-after, holds-first, holds-second, of-types, operand-yet}
+use Rattle.mh_attempt.proofs.types.AskingTypes.{types-back}
+use Rattle.mh_attempt.proofs.types.OperandTypes.{types-others, types-unmade_both}
 use Rattle.mh_attempt.proofs.lines.several.make_three.Goals as goal
 
 pub returns-in-Ok-clause-goes_on : goal.returns-in-Ok-clause-goes_on

@@ -7,11 +7,11 @@ use Rattle.mh_handle.proofs.obeying.Rooms.{goes_on-sum, ready-after}
 use Rattle.mh_jobs.specs.Thrown.{◌>>=◌}
 use Rattle.mh_link.specs.Operations.{use_of}
 use Rattle.mh_attempt.specs.Recipes.{use_asked}
-use Rattle.mh_attempt.proofs.Adding.{adds-then, holds-came}
-use Rattle.mh_attempt.proofs.AskedUses.{asks-use}
-use Rattle.mh_attempt.proofs.MadeNodes.{of-refused, of-unmade}
-use Rattle.mh_attempt.proofs.UsedNodes.{node-of-use, use-given, use-rule}
-use Rattle.mh_attempt.proofs.UseTypes.{types-use}
+use Rattle.mh_attempt.proofs.types.Adding.{adds-then, holds-came}
+use Rattle.mh_attempt.proofs.asked.AskedUses.{asks-use}
+use Rattle.mh_attempt.proofs.nodes.MadeNodes.{of-refused, of-unmade}
+use Rattle.mh_attempt.proofs.nodes.UsedNodes.{node-of-use, use-given, use-rule}
+use Rattle.mh_attempt.proofs.types.UseTypes.{types-use}
 use Rattle.mh_attempt.proofs.lines.uses.convert_handle.Goals as goal
 
 pub returns-in_err-check_use : goal.returns-in_err-check_use

@@ -6,11 +6,11 @@ use Rattle.mh_handle.proofs.obeying.Going.{goes_on-more}
 use Rattle.mh_handle.proofs.obeying.Rooms.{goes_on-sum, ready-after}
 use Rattle.mh_link.specs.Operations.{spread_of}
 use Rattle.mh_attempt.specs.Recipes.{spread_asked}
-use Rattle.mh_attempt.proofs.Adding.{adds-then, holds-came}
-use Rattle.mh_attempt.proofs.AskedUses.{asks-spread}
-use Rattle.mh_attempt.proofs.MadeNodes.{of-refused, of-unmade}
-use Rattle.mh_attempt.proofs.SpreadNodes.{node-of-spread, spread-is, spread-rule}
-use Rattle.mh_attempt.proofs.UseTypes.{types-spread}
+use Rattle.mh_attempt.proofs.types.Adding.{adds-then, holds-came}
+use Rattle.mh_attempt.proofs.asked.AskedUses.{asks-spread}
+use Rattle.mh_attempt.proofs.nodes.MadeNodes.{of-refused, of-unmade}
+use Rattle.mh_attempt.proofs.nodes.SpreadNodes.{node-of-spread, spread-is, spread-rule}
+use Rattle.mh_attempt.proofs.types.UseTypes.{types-spread}
 use Rattle.mh_attempt.proofs.lines.uses.make_spread.Goals as goal
 
 pub returns-in_err-check_spread_use : goal.returns-in_err-check_spread_use

@@ -1,6 +1,6 @@
 use Rattle.std.proofs.Common.{subst}
 use Rattle.mh_attempt.specs.Linkage.{IsLinkage}
-use Rattle.mh_attempt.proofs.SiteCalls.{target-runs, target-typed}
+use Rattle.mh_attempt.proofs.linking.SiteCalls.{target-runs, target-typed}
 use Rattle.mh_attempt.proofs.linkage.Linkage.call_with.Goals as goal
 
 pub invoke_with-requires-clause-typed : goal.invoke_with-requires-clause-typed

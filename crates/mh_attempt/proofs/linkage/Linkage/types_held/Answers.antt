@@ -1,4 +1,4 @@
-use Rattle.mh_attempt.proofs.Holding.{linkage-holds}
+use Rattle.mh_attempt.proofs.linking.Holding.{linkage-holds}
 use Rattle.mh_attempt.proofs.linkage.Linkage.types_held.Goals as goal
 
 pub returns : goal.returns

@@ -3,8 +3,8 @@ use Rattle.mh_jobs.specs.declared.job.Argument.{Argument}
 use Rattle.mh_link.specs.Operands.{content, no_argument}
 use Rattle.mh_attempt.specs.Registers.{IsContent}
 use Rattle.mh_script.specs.declared.operand.Register.TheVariants as register
-use Rattle.mh_attempt.proofs.RegisterContents.{argument-content, argument-none}
-use Rattle.mh_attempt.proofs.Telling.{throws-tells-by}
+use Rattle.mh_attempt.proofs.assigned.RegisterContents.{argument-content, argument-none}
+use Rattle.mh_attempt.proofs.nodes.Telling.{throws-tells-by}
 use Rattle.mh_attempt.proofs.registers.Registers.argument.Goals as goal
 
 pub returns-in_ok-held-in-Some-clause-holds : goal.returns-in_ok-held-in-Some-clause-holds

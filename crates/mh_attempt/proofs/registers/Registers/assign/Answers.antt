@@ -1,8 +1,8 @@
 use Rattle.std.proofs.Common.{sym, ◌∙◌}
 use Rattle.mh_intern.proofs.HeldLists.{held-first}
 use Rattle.mh_attempt.specs.Registers.{holds_in, holds_of}
-use Rattle.mh_attempt.proofs.RegisterTypes.{assigned-none, assigned-some}
-use Rattle.mh_attempt.proofs.AssignedHolds.{found-kept}
+use Rattle.mh_attempt.proofs.assigned.RegisterTypes.{assigned-none, assigned-some}
+use Rattle.mh_attempt.proofs.assigned.AssignedHolds.{found-kept}
 use Rattle.mh_attempt.proofs.registers.Registers.assign.Goals as goal
 
 pub give_back-requires-clause-held : goal.give_back-requires-clause-held

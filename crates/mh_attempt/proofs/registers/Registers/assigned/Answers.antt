@@ -3,8 +3,8 @@ use Rattle.std.specs.Prelude.{option_map}
 use Rattle.mh_link.specs.Operands.{last_assigned}
 use Rattle.mh_attempt.specs.declared.registers.Assignment.{Assignment}
 use Rattle.mh_attempt.specs.Registers.{HoldsLast, held_under}
-use Rattle.mh_attempt.proofs.RegisterContents.{last-content}
-use Rattle.mh_attempt.proofs.AssignedHolds.{found-kept}
+use Rattle.mh_attempt.proofs.assigned.RegisterContents.{last-content}
+use Rattle.mh_attempt.proofs.assigned.AssignedHolds.{found-kept}
 use Rattle.mh_attempt.proofs.registers.Registers.assigned.Goals as goal
 
 pub returns-in-Some-clause-holds : goal.returns-in-Some-clause-holds

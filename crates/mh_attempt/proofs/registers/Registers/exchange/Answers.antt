@@ -1,7 +1,7 @@
 use Rattle.std.proofs.Common.{◌≡◌, sym, ◌∙◌, subst, None, Some}
 use Rattle.std.specs.Prelude.{position}
 use Rattle.mh_attempt.specs.Registers.{is_named}
-use Rattle.mh_attempt.proofs.Assigning.{found-nowhere, replaced-before, replaced-now}
+use Rattle.mh_attempt.proofs.assigned.Assigning.{found-nowhere, replaced-before, replaced-now}
 use Rattle.mh_attempt.proofs.registers.Registers.exchange.Goals as goal
 
 pub returns-in-Some-clause-before : goal.returns-in-Some-clause-before

@@ -3,7 +3,7 @@ use Rattle.mh_intern.proofs.Exchanging.{exchanges-still, held-came}
 use Rattle.mh_handle.proofs.obeying.Going.{unchanged-both, unchanged-still}
 use Rattle.mh_handle.proofs.holding.HoldOrders.{exchanges-kept}
 use Rattle.mh_attempt.specs.Registers.{holds_in}
-use Rattle.mh_attempt.proofs.RegisterTypes.{last-exchanges, last-kept}
+use Rattle.mh_attempt.proofs.assigned.RegisterTypes.{last-exchanges, last-kept}
 use Rattle.mh_attempt.proofs.registers.Registers.give_back.Goals as goal
 
 pub loop-assignment-init : goal.loop-assignment-init

@@ -15,7 +15,7 @@ use Rattle.mh_plan.specs.declared.call.Call.TheVariants.{Exact, Generic}
 use Rattle.mh_report.specs.Forms.{used_edits}
 use Rattle.mh_runtime.specs.Asking.{call_draws}
 use Rattle.mh_runtime.specs.Linkers.{MakesCall, pass_in}
-use Rattle.mh_runtime.proofs.MadeCalls.{leaf-made}
+use Rattle.mh_runtime.proofs.asking.MadeCalls.{leaf-made}
 use Rattle.mh_runtime.proofs.context.Context.call.Goals as goal
 
 pub returns-in-Exact-clause-makes : goal.returns-in-Exact-clause-makes

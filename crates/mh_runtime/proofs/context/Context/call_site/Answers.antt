@@ -1,5 +1,5 @@
 use Rattle.mh_runtime.specs.Linkers.{pass_in}
-use Rattle.mh_runtime.proofs.MadeCalls.{site-made, site-refused, site-stopped}
+use Rattle.mh_runtime.proofs.asking.MadeCalls.{site-made, site-refused, site-stopped}
 use Rattle.mh_runtime.proofs.context.Context.call_site.Goals as goal
 
 pub returns-in_err-linkage-clause-makes : goal.returns-in_err-linkage-clause-makes

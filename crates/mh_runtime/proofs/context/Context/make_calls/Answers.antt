@@ -17,16 +17,16 @@ use Rattle.mh_runtime.specs.Keys.{keys_of}
 use Rattle.mh_runtime.specs.Linkers.{IsReadyFor}
 use Rattle.mh_runtime.specs.Passes.{HasSerials}
 use Rattle.mh_runtime.specs.Stops.{begun}
-use Rattle.mh_runtime.proofs.Answering.{end-early, end-whole, reported-answers, reported-linked, way-ended}
-use Rattle.mh_runtime.proofs.AskedAnswers.{memory-within, second-within}
-use Rattle.mh_runtime.proofs.Items.{flat-begun, flat-ended, flat-next}
-use Rattle.mh_runtime.proofs.Repeating.{reported-next}
-use Rattle.mh_runtime.proofs.Room.{calls-draw, goes-next, goes-whole, goes-within}
-use Rattle.mh_runtime.proofs.RunSteps.{runs-both, runs-none, stops-run, stops-within}
-use Rattle.mh_runtime.proofs.SeatAsked.{on-both, on-none}
-use Rattle.mh_runtime.proofs.SeatTypes.{keeps-both, keeps-recorded, keeps-still}
-use Rattle.mh_runtime.proofs.ThreadSteps.{attempts-both, attempts-none, attempts-within, linked-both, links-both, links-fewer, links-none, serials-both, serials-self, unlearnt-both, unlearnt-same}
-use Rattle.mh_runtime.proofs.WorkPasses.{goes-calling, ready-for-next}
+use Rattle.mh_runtime.proofs.lanes.Answering.{end-early, end-whole, reported-answers, reported-linked, way-ended}
+use Rattle.mh_runtime.proofs.asking.AskedAnswers.{memory-within, second-within}
+use Rattle.mh_runtime.proofs.ledger.Items.{flat-begun, flat-ended, flat-next}
+use Rattle.mh_runtime.proofs.ledger.Repeating.{reported-next}
+use Rattle.mh_runtime.proofs.lanes.Room.{calls-draw, goes-next, goes-whole, goes-within}
+use Rattle.mh_runtime.proofs.asking.RunSteps.{runs-both, runs-none, stops-run, stops-within}
+use Rattle.mh_runtime.proofs.asking.SeatAsked.{on-both, on-none}
+use Rattle.mh_runtime.proofs.types.SeatTypes.{keeps-both, keeps-recorded, keeps-still}
+use Rattle.mh_runtime.proofs.sites.ThreadSteps.{attempts-both, attempts-none, attempts-within, linked-both, links-both, links-fewer, links-none, serials-both, serials-self, unlearnt-both, unlearnt-same}
+use Rattle.mh_runtime.proofs.asking.WorkPasses.{goes-calling, ready-for-next}
 use Rattle.mh_runtime.proofs.context.Context.make_calls.Goals as goal
 
 -- ---- before each call

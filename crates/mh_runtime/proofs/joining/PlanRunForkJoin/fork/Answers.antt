@@ -3,7 +3,7 @@ use Rattle.std.specs.Prelude.{slice_get}
 use Rattle.mh_runtime.specs.declared.pass.Pass.{Pass}
 use Rattle.mh_runtime.specs.Bases.{pass_of}
 use Rattle.mh_runtime.specs.Linkers.{IsOf, SplitsPass}
-use Rattle.mh_runtime.proofs.ForkedLanes.{can-split, forked-reported, left-of, ready-reported}
+use Rattle.mh_runtime.proofs.lanes.ForkedLanes.{can-split, forked-reported, left-of, ready-reported}
 use Rattle.mh_runtime.proofs.joining.PlanRunForkJoin.fork.Goals as goal
 
 pub lane-requires-clause-pass : goal.lane-requires-clause-pass

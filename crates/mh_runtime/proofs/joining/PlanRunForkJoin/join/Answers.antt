@@ -2,7 +2,7 @@ use Rattle.std.proofs.Common.{◌∙◌}
 use Rattle.mh_runtime.specs.declared.pass.Pass.{Pass}
 use Rattle.mh_runtime.specs.Bases.{pass_of}
 use Rattle.mh_runtime.specs.Linkers.{IsOf}
-use Rattle.mh_runtime.proofs.ForkedLanes.{joined-reported}
+use Rattle.mh_runtime.proofs.lanes.ForkedLanes.{joined-reported}
 use Rattle.mh_runtime.proofs.joining.PlanRunForkJoin.join.Goals as goal
 
 pub add-requires-clause-pass : goal.add-requires-clause-pass

@@ -1,5 +1,5 @@
 use Rattle.mh_runtime.specs.Bases.{pass_of}
-use Rattle.mh_runtime.proofs.WholeJoin.{joined-none}
+use Rattle.mh_runtime.proofs.lanes.WholeJoin.{joined-none}
 use Rattle.mh_runtime.proofs.joining.PlanRunForkJoin.start.Goals as goal
 
 pub returns : goal.returns

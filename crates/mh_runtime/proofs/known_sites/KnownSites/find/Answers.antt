@@ -1,4 +1,4 @@
-use Rattle.mh_runtime.proofs.SiteSerials.{finds-linkage, keeps-serials}
+use Rattle.mh_runtime.proofs.sites.SiteSerials.{finds-linkage, keeps-serials}
 use Rattle.mh_runtime.proofs.known_sites.KnownSites.find.Goals as goal
 
 pub returns-clause-linked : goal.returns-clause-linked

@@ -1,4 +1,4 @@
-use Rattle.mh_runtime.proofs.SiteSerials.{keeps-serials}
+use Rattle.mh_runtime.proofs.sites.SiteSerials.{keeps-serials}
 use Rattle.mh_runtime.proofs.known_sites.KnownSites.join.Goals as goal
 
 pub returns-clause-mine : goal.returns-clause-mine

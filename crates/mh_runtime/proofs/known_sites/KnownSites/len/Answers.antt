@@ -1,5 +1,5 @@
 use Rattle.std.proofs.Common.{◌∙◌}
-use Rattle.mh_runtime.proofs.SiteSerials.{length-linked}
+use Rattle.mh_runtime.proofs.sites.SiteSerials.{length-linked}
 use Rattle.mh_runtime.proofs.known_sites.KnownSites.len.Goals as goal
 
 pub returns-clause-count : goal.returns-clause-count

@@ -1,5 +1,5 @@
 use Rattle.std.proofs.Common.{◌∙◌, ap, length, replicate, None}
-use Rattle.mh_runtime.proofs.SiteSerials.{nothing-linked}
+use Rattle.mh_runtime.proofs.sites.SiteSerials.{nothing-linked}
 use Rattle.mh_runtime.proofs.known_sites.KnownSites.new.Goals as goal
 
 pub returns-clause-linked : goal.returns-clause-linked

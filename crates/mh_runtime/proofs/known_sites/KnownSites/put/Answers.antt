@@ -2,7 +2,7 @@ use Rattle.std.proofs.Common.{ap, subst}
 use Rattle.mh_jobs.specs.declared.job.Job.{Job}
 use Rattle.mh_cells.specs.Values.{Puts}
 use Rattle.mh_runtime.specs.Passes.{site_of}
-use Rattle.mh_runtime.proofs.SiteSerials.{keeps-serials, puts-linkage}
+use Rattle.mh_runtime.proofs.sites.SiteSerials.{keeps-serials, puts-linkage}
 use Rattle.mh_runtime.proofs.known_sites.KnownSites.put.Goals as goal
 
 pub returns-clause-linked : goal.returns-clause-linked

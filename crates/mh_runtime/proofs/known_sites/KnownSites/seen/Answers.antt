@@ -1,4 +1,4 @@
-use Rattle.mh_runtime.proofs.SiteSerials.{finds-linkage}
+use Rattle.mh_runtime.proofs.sites.SiteSerials.{finds-linkage}
 use Rattle.mh_runtime.proofs.known_sites.KnownSites.seen.Goals as goal
 
 pub returns : goal.returns

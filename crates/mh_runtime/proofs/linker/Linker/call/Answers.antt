@@ -1,5 +1,5 @@
-use Rattle.mh_runtime.proofs.CallRoom.{room_left}
-use Rattle.mh_runtime.proofs.WorkPasses.{still-of}
+use Rattle.mh_runtime.proofs.lanes.CallRoom.{room_left}
+use Rattle.mh_runtime.proofs.asking.WorkPasses.{still-of}
 use Rattle.mh_runtime.proofs.linker.Linker.call.Goals as goal
 
 pub call-answer-requires-clause-ready : goal.call-answer-requires-clause-ready

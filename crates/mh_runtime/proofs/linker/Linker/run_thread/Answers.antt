@@ -1,5 +1,5 @@
 use Rattle.std.proofs.Common.{length}
-use Rattle.mh_runtime.proofs.WorkPasses.{still-of}
+use Rattle.mh_runtime.proofs.asking.WorkPasses.{still-of}
 use Rattle.mh_runtime.proofs.linker.Linker.run_thread.Goals as goal
 
 pub run_thread-run-requires-clause-ready : goal.run_thread-run-requires-clause-ready

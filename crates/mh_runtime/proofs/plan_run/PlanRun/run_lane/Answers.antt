@@ -1,6 +1,6 @@
 use Rattle.std.proofs.Common.{refl, Some}
 use Rattle.mh_runtime.specs.Bases.{pass_of}
-use Rattle.mh_runtime.proofs.LaneEnds.{has-made, has-run, lane-of, lane-room}
+use Rattle.mh_runtime.proofs.lanes.LaneEnds.{has-made, has-run, lane-of, lane-room}
 use Rattle.mh_runtime.proofs.plan_run.PlanRun.run_lane.Goals as goal
 
 pub run_thread-ran-requires-clause-pass : goal.run_thread-ran-requires-clause-pass

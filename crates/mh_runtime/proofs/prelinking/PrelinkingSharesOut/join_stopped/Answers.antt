@@ -2,7 +2,7 @@ use Rattle.std.proofs.Common.{◌∙◌, ap, length, Result, Ok, Some}
 use Rattle.mh_prelink.specs.Steps.{worked}
 use Rattle.mh_runtime.specs.declared.prelinking.Prelinked.{Prelinked}
 use Rattle.mh_runtime.specs.Stops.{stop_after, stop_at}
-use Rattle.mh_runtime.proofs.WorkersJoined.{gathered-reported, next-is, next-took}
+use Rattle.mh_runtime.proofs.workers.WorkersJoined.{gathered-reported, next-is, next-took}
 use Rattle.mh_runtime.proofs.prelinking.PrelinkingSharesOut.join_stopped.Goals as goal
 
 pub join-requires-clause-other : goal.join-requires-clause-other

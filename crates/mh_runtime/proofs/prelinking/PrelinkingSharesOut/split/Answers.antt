@@ -1,7 +1,7 @@
 use Rattle.std.proofs.Common.{◌+◌, refl, sym, ap₂, subst, length, IfOk}
 use Rattle.mh_runtime.specs.declared.prelinking.Prelinked.{Prelinked}
 use Rattle.mh_runtime.specs.Linkers.{SplitsPass}
-use Rattle.mh_runtime.proofs.WorkersJoined.{off-ready, off-reported}
+use Rattle.mh_runtime.proofs.workers.WorkersJoined.{off-ready, off-reported}
 use Rattle.mh_runtime.proofs.prelinking.PrelinkingSharesOut.split.Goals as goal
 
 pub returns-clause-split_off : goal.returns-clause-split_off

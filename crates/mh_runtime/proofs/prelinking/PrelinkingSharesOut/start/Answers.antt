@@ -1,5 +1,5 @@
 use Rattle.std.proofs.Common.{length}
-use Rattle.mh_runtime.proofs.WorkersJoined.{begun}
+use Rattle.mh_runtime.proofs.workers.WorkersJoined.{begun}
 use Rattle.mh_runtime.proofs.prelinking.PrelinkingSharesOut.start.Goals as goal
 
 pub returns : goal.returns

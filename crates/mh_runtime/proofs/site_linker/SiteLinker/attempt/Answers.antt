@@ -5,22 +5,22 @@ use Rattle.mh_link.specs.Sites.{types_at}
 use Rattle.mh_attempt.specs.declared.error.WorkError.TheVariants.{NoMemory}
 use Rattle.mh_attempt.specs.Asked.{attempt_draws}
 use Rattle.mh_attempt.specs.Linkage.{LinkageView}
-use Rattle.mh_attempt.proofs.Adding.{holds-came}
+use Rattle.mh_attempt.proofs.types.Adding.{holds-came}
 use Rattle.mh_report.specs.Results.{serial_at}
 use Rattle.mh_runtime.specs.Asking.{call_draws}
 use Rattle.mh_runtime.specs.Attempts.{GoesOnLinking}
 use Rattle.mh_runtime.specs.Linking.{KeepsOthers, Records}
 use Rattle.mh_runtime.specs.Passes.{IsLinkageOf, LearnsSites, LinkPass}
-use Rattle.mh_runtime.proofs.AskedAnswers as answer
-use Rattle.mh_runtime.proofs.LinkSteps.{attempts-begun, attempts-learn, begun-attempts, begun-made, begun_by, goes-begun, latest-begun, learnt-not, learns-none, on-err, unlearnt-begun}
-use Rattle.mh_runtime.proofs.RecordedTypes.{attempt-keeps}
-use Rattle.mh_runtime.proofs.Resolving.{if-err}
-use Rattle.mh_runtime.proofs.RunningAttempts.{attempt-runs, attempt-stops}
-use Rattle.mh_runtime.proofs.RunSteps.{stops-run}
-use Rattle.mh_runtime.proofs.SeatAsked as seat
-use Rattle.mh_runtime.proofs.SeatTypes.{keeps-adds, keeps-recorded, keeps-still}
-use Rattle.mh_runtime.proofs.ThreadSteps.{links-none, unlearnt-same}
-use Rattle.mh_runtime.proofs.WorkPasses.{goes-calling}
+use Rattle.mh_runtime.proofs.asking.AskedAnswers as answer
+use Rattle.mh_runtime.proofs.sites.LinkSteps.{attempts-begun, attempts-learn, begun-attempts, begun-made, begun_by, goes-begun, latest-begun, learnt-not, learns-none, on-err, unlearnt-begun}
+use Rattle.mh_runtime.proofs.types.RecordedTypes.{attempt-keeps}
+use Rattle.mh_runtime.proofs.sites.Resolving.{if-err}
+use Rattle.mh_runtime.proofs.asking.RunningAttempts.{attempt-runs, attempt-stops}
+use Rattle.mh_runtime.proofs.asking.RunSteps.{stops-run}
+use Rattle.mh_runtime.proofs.asking.SeatAsked as seat
+use Rattle.mh_runtime.proofs.types.SeatTypes.{keeps-adds, keeps-recorded, keeps-still}
+use Rattle.mh_runtime.proofs.sites.ThreadSteps.{links-none, unlearnt-same}
+use Rattle.mh_runtime.proofs.asking.WorkPasses.{goes-calling}
 use Rattle.mh_runtime.proofs.site_linker.SiteLinker.attempt.Goals as goal
 
 -- ---- no memory to begin the attempt

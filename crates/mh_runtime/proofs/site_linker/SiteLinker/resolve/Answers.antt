@@ -1,7 +1,7 @@
 use Rattle.std.proofs.Common.{◌∙◌, ap, subst, arith}
 use Rattle.mh_tickets.specs.Seats.{SeatView}
 use Rattle.mh_runtime.specs.Passes.{FindsLinkage}
-use Rattle.mh_runtime.proofs.Resolving.{resolves-learnt, resolves-more}
+use Rattle.mh_runtime.proofs.sites.Resolving.{resolves-learnt, resolves-more}
 use Rattle.mh_runtime.proofs.site_linker.SiteLinker.resolve.Goals as goal
 
 pub attempt-requires-clause-ready : goal.attempt-requires-clause-ready

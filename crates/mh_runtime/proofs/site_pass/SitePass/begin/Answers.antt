@@ -1,4 +1,4 @@
-use Rattle.mh_runtime.proofs.LinkPasses.{pass-begins}
+use Rattle.mh_runtime.proofs.sites.LinkPasses.{pass-begins}
 use Rattle.mh_runtime.proofs.site_pass.SitePass.begin.Goals as goal
 
 pub invariant_of-self-2 : goal.invariant_of-self-2

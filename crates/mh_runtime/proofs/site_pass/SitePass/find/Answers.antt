@@ -1,4 +1,4 @@
-use Rattle.mh_runtime.proofs.LinkPasses.{pass-learns}
+use Rattle.mh_runtime.proofs.sites.LinkPasses.{pass-learns}
 use Rattle.mh_runtime.proofs.site_pass.SitePass.find.Goals as goal
 
 pub invariant_of-self : goal.invariant_of-self

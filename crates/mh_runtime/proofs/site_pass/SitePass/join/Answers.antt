@@ -1,5 +1,5 @@
 use Rattle.std.proofs.Common.{◌∙◌, ap, ◌++◌}
-use Rattle.mh_runtime.proofs.LinkPasses.{pass-joins}
+use Rattle.mh_runtime.proofs.sites.LinkPasses.{pass-joins}
 use Rattle.mh_runtime.proofs.site_pass.SitePass.join.Goals as goal
 
 pub invariant_of-self-2 : goal.invariant_of-self-2

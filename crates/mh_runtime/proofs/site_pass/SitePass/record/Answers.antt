@@ -1,10 +1,10 @@
 use Rattle.std.proofs.Common.{◌≡◌, ◌∙◌, ap, ap₂, refl, [], ◌∷◌, ◌++◌, inr}
 use Rattle.mh_report.specs.declared.attempt.Attempt.{Attempt}
 use Rattle.mh_runtime.specs.Passes.{attempt_of}
-use Rattle.mh_runtime.proofs.LinkPasses.{pass-learns, pass-puts}
-use Rattle.mh_runtime.proofs.SeatAsked.{asks-same}
-use Rattle.mh_runtime.proofs.RecordedTypes.{handed-back}
-use Rattle.mh_runtime.proofs.RecordedTypes.{records-one}
+use Rattle.mh_runtime.proofs.sites.LinkPasses.{pass-learns, pass-puts}
+use Rattle.mh_runtime.proofs.asking.SeatAsked.{asks-same}
+use Rattle.mh_runtime.proofs.types.RecordedTypes.{handed-back}
+use Rattle.mh_runtime.proofs.types.RecordedTypes.{records-one}
 use Rattle.mh_runtime.proofs.site_pass.SitePass.record.Given as given
 use Rattle.mh_runtime.proofs.site_pass.SitePass.record.Goals as goal
 

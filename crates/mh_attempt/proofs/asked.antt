@@ -1,0 +1,12 @@
+pub mod RecipeSets
+pub mod RecipeCounts
+pub mod AskedAfter
+pub mod AskedForms
+pub mod AskedNodes
+pub mod AskedOperands
+pub mod AskedUses
+pub mod AskedOperations
+pub mod AskedLines
+pub mod SameAsked
+pub mod Once
+pub mod AllMade

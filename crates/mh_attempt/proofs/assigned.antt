@@ -1,0 +1,6 @@
+pub mod Assigning
+pub mod AssignedHolds
+pub mod RegisterContents
+pub mod RegisterTypes
+pub mod RoomyRegisters
+pub mod RunRegisters

@@ -1,0 +1,10 @@
+pub mod RecipeBeginnings
+pub mod RecipeKeys
+pub mod TypedRecipes
+pub mod KnownHandles
+pub mod KnownNodes
+pub mod KnownLines
+pub mod KnownSteps
+pub mod AskedAmong
+pub mod Beginnings
+pub mod SiteEdits

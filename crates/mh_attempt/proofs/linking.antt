@@ -1,0 +1,7 @@
+pub mod Resolving
+pub mod Concatenating
+pub mod JobCalls
+pub mod Outcomes
+pub mod Holding
+pub mod SiteCalls
+pub mod Crossing

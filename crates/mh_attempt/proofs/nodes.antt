@@ -1,0 +1,9 @@
+pub mod NodeRules
+pub mod LineNodes
+pub mod NodeOperands
+pub mod SwitchNodes
+pub mod SpreadNodes
+pub mod UsedNodes
+pub mod MadeNodes
+pub mod MadeOperations
+pub mod Telling

@@ -1,0 +1,9 @@
+pub mod NextLine
+pub mod RunSteps
+pub mod FailedSteps
+pub mod Running
+pub mod RunLines
+pub mod RunFails
+pub mod Endings
+pub mod RunEnds
+pub mod RunCalls

@@ -1,0 +1,9 @@
+pub mod Adding
+pub mod Replacing
+pub mod TypeLists
+pub mod AskingTypes
+pub mod OperandTypes
+pub mod UseTypes
+pub mod LineTypes
+pub mod AskingRuns
+pub mod SiteTypes

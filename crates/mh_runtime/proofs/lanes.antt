@@ -1,0 +1,14 @@
+pub mod CallRoom
+pub mod Room
+pub mod Answering
+pub mod LaneEnds
+pub mod ForkedLanes
+pub mod LaneLists
+pub mod MoreThreads
+pub mod JoinedForms
+pub mod JoinedTypes
+pub mod JoiningEnds
+pub mod JoiningSteps
+pub mod WholeJoin
+pub mod KeptPasses
+pub mod Crossing

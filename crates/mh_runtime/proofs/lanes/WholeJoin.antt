@@ -1,0 +1,215 @@
+-- All lanes are joined to their base.
+use Rattle.std.proofs.Common.{◌≡◌, refl, sym, ◌∙◌, ap, ap₂, subst, ℕ, zero, suc, Bool, true, false, ◌&&◌, cond, ◌+◌, ◌-◌, ◌*◌, List, [], ◌++◌, append-nil}
+use Rattle.std.proofs.Common.{length, map, take, None, Some, ◌<◌, arith}
+use Rattle.std.proofs.lemmas.List.{take_all}
+use lib.Dec.{leb}
+use Rattle.std.proofs.lemmas.Bool.{lt-leb}
+use Rattle.std.specs.List.{IsDistinct, flat_map}
+use Rattle.std.proofs.lemmas.List.Elements.{All-nil}
+use Rattle.mh_edit.specs.declared.key.Key.{Key}
+use Rattle.mh_handle.specs.Passes.{PassView, TableView, pass_at as forms_at}
+use Rattle.mh_handle.specs.Seats as forms
+use Rattle.mh_tickets.specs.Draws.{EachOnce, once_up_to}
+use Rattle.mh_seats.specs.Room.{limit, times}
+use Rattle.mh_intern.specs.Held.{on_type, times_type}
+use Rattle.mh_intern.specs.Views.{SeatView}
+use Rattle.mh_handle.specs.Form.{most_forms}
+use Rattle.mh_jobs.specs.Given.{Given}
+use Rattle.mh_attempt.specs.declared.error.WorkError.TheVariants.{FormsFull, TypesFull}
+use Rattle.mh_attempt.specs.Asked.{HasAsked}
+use Rattle.mh_attempt.proofs.asked.RecipeSets.{none-among}
+use Rattle.mh_plan.specs.declared.call.Call.{Call}
+use Rattle.mh_report.specs.Forms.{all_edits, draws_needed}
+use Rattle.mh_plan.specs.Limits.{IsWithinLimits}
+use Rattle.mh_report.specs.Results.{keys_said, results_said}
+use Rattle.mh_report.specs.Types.{Overfill, all_types}
+use Rattle.mh_runtime.specs.declared.joining.Joined.{Joined}
+use Rattle.mh_runtime.specs.declared.lane.Lane.{Lane}
+use Rattle.mh_runtime.specs.declared.linker.Linker.{Linker}
+use Rattle.mh_runtime.specs.declared.pass.Pass.{Pass}
+use Rattle.mh_runtime.specs.declared.stops.Stop.{Stop}
+use Rattle.mh_runtime.specs.Asking.{WasAsked}
+use Rattle.mh_runtime.specs.Bases.{base_of}
+use Rattle.mh_runtime.specs.Joined.{AreFormsJoined, AreJoined, ThreadPasses}
+use Rattle.mh_runtime.specs.Joining.{AreForked, AreFresh, AreJoinedSoFar, AreJoinedTo, EndsSoFar, HasRoomFor, IfDrawsKnown, IfForms, IsJoinedRun, IsLeft}
+use Rattle.mh_runtime.specs.Joining.{IsUnused, KnowsDraws, StopsFor, calls_of, ends_of, lanes_types}
+use Rattle.mh_runtime.specs.Lanes.{AreUnlearnt, passes_of}
+use Rattle.mh_runtime.specs.Linking.{HoldsInstead, HoldsJust, types_held}
+use Rattle.mh_runtime.specs.Passes.{HasSerials, LinkPass, split_room}
+use Rattle.mh_runtime.specs.Stops.{stop_of}
+use Rattle.mh_runtime.proofs.lanes.JoinedForms.{asked-edits}
+use Rattle.mh_runtime.proofs.types.FullBuckets.{no-slot-overfills}
+use Rattle.mh_runtime.proofs.forms.Needed.{full}
+use Rattle.mh_runtime.proofs.types.RecordedTypes.{just-recorded}
+use Rattle.mh_runtime.proofs.types.RunTypes.{asked-needed}
+use Rattle.mh_runtime.proofs.sites.ThreadSteps.{serials-self}
+
+-- nothing is each number once
+pub none-once : EachOnce []
+none-once x = cases x
+  where
+    cases : (x : ℕ) → times x [] ≡ once_up_to 0 x
+    cases zero = refl
+    cases (suc x) = sym (ap (λ b. cond b 1 0) (none (leb 1 (suc x))))
+      where
+        none : (b : Bool) → (b && leb (suc x) 0) ≡ false
+        none true = lt-leb (suc x) 0 (omega arith)
+        none false = refl
+
+pub none-asked : (table : TableView) (room : ℕ) → HasAsked [] (forms_at table (forms.new_seat table room))
+unfolding IsDistinct
+none-asked table room = record { once = tt; same = λ recipe. refl }
+
+-- ---- a base of which no lane was joined yet
+
+module _ {J : Type 0} (given : Given) (base : Pass J) where
+  -- what the base has asked for was asked for
+  left-asked : (count : ℕ) (pass : Pass J) → IsLeft count base pass → (before : List (List Key)) → HasAsked before base.forms →
+      HasAsked (before ++ []) pass.forms
+  left-asked count pass left before has =
+      subst (λ rs. HasAsked rs pass.forms) (sym (append-nil before))
+      (subst (HasAsked before) (sym left.forms) (record { once = has.once; same = has.same }))
+
+  none-so_far : (count : ℕ) (joined : Joined J) → IsLeft count base joined.pass → HasRoomFor count (base_of base) → joined.threads ≡ [] → joined.stop ≡ None →
+      AreJoinedSoFar {J = J} given base count [] joined
+  none-so_far count joined left can none no_stop =
+      let links = left.links in
+      let forms_are = left.forms in
+      let types_are = left.types in
+      let drawn : length joined.pass.forms.seat.numbers ≡ length base.forms.seat.numbers = ap (λ (p : PassView). length p.seat.numbers) forms_are in
+      let forms_left : joined.pass.forms.seat.room ≡ base.forms.seat.room - split_room * count = ap (λ (p : PassView). p.seat.room) forms_are in
+      record {
+        linker_is = ap (λ (p : LinkPass). p.linker) links;
+        table_is = ap (λ (p : PassView). p.table) forms_are;
+        types_is = ap (λ (s : SeatView). s.table) types_are;
+        used = record { count = refl; each = λ thread calls passes is there. absurd cc };
+        attempts = ap (λ (p : LinkPass). p.attempts) links ∙ sym (append-nil base.links.attempts);
+        unlearnt = All-nil (λ (p : ThreadPasses). AreUnlearnt base.links p.links.attempts);
+        numbers = ap (λ (p : LinkPass). p.seat.numbers) links ∙ sym (append-nil base.links.seat.numbers);
+        learnt = subst (HasSerials base.links.linked) (sym (ap (λ (p : LinkPass). p.linked) links)) (serials-self base.links.linked);
+        linked = All-nil (λ (p : ThreadPasses). HasSerials p.links.linked joined.pass.links.linked);
+        links_room =
+            let n : length joined.pass.links.seat.numbers ≡ length base.links.seat.numbers = ap (λ (p : LinkPass). length p.seat.numbers) links in
+            let r : joined.pass.links.seat.room ≡ base.links.seat.room - split_room * count = ap (λ (p : LinkPass). p.seat.room) links in
+            omega (arith, n, r, can.serials);
+        links_known = λ once all. subst EachOnce (sym (ap (λ (p : LinkPass). p.seat.numbers) links)) once;
+        forms_numbers = ap (λ (p : PassView). p.seat.numbers) forms_are ∙ sym (append-nil base.forms.seat.numbers);
+        forms_known = λ once all. subst EachOnce (sym (ap (λ (p : PassView). p.seat.numbers) forms_are)) once;
+        types_room =
+            let n : length joined.pass.types.holds ≡ length base.types.holds = ap (λ (s : SeatView). length s.holds) types_are in
+            let r : joined.pass.types.room ≡ base.types.room - split_room * count = ap (λ (s : SeatView). s.room) types_are in
+            omega (arith, n, r, can.holds);
+        types_held = λ t.
+            ap₂ (λ m n. m + n) (ap (λ (s : SeatView). on_type t s.holds) types_are)
+            (sym (ap (λ (p : LinkPass). times_type t (types_held given p.recorded)) links));
+        types_asked = λ t nothing.
+            ap (λ (s : SeatView). times_type t s.asked) types_are ∙ (ap (times_type t) (sym (append-nil base.types.asked)) ∙ nothing);
+        draws = λ before has.
+            subst (λ reported. IfDrawsKnown reported (KnowsDraws {J = J} given before base.forms count [] joined)) (sym no_stop) (record {
+              few = λ thread calls passes is there. absurd cc;
+              room = omega (arith, drawn, forms_left, can.forms);
+            });
+        stop_is = no_stop;
+        ends = subst (EndsSoFar {J = J} given base.forms [] joined) (sym no_stop) (
+          (λ thread calls passes is there. absurd cc),
+          left-asked count joined.pass left,
+          (λ t has. ap results_said none),
+          (λ t has. ap keys_said none),
+        );
+      }
+
+  -- all lanes were forked off, and none was joined yet
+  pub joined-none : (threads : List (List Call)) (joined : Joined J) (lanes : List (Lane J)) → AreForked given base threads joined lanes →
+      length lanes ≡ length threads → AreJoinedTo given base threads lanes [] joined
+  joined-none threads joined lanes forked same = record {
+    fresh = subst (λ ts. AreFresh given base ts lanes)
+        (ap (λ n. take n threads) same ∙ take_all (length threads) threads (omega arith)) forked.lanes_are;
+    calls = refl;
+    made = record { count = refl; each = λ thread calls end is there. absurd cc };
+    so_far = none-so_far (length threads) joined (subst (λ n. IsLeft n base joined.pass) same forked.pass) forked.room forked.nothing.0 forked.nothing.1;
+  }
+
+-- ---- a base with which nothing was done, to which all lanes were joined
+
+-- it has room for the lanes of a plan's threads
+pub room-unused : {J : Type 0} (given : Given) (linker : Linker J) (base : Pass J) (threads : List (List Call)) → IsUnused given linker base →
+    IsWithinLimits threads → HasRoomFor (length threads) (base_of base)
+room-unused given linker base threads unused limits = record {
+  serials = omega (arith, limits.few_threads, ap (λ (p : LinkPass). p.seat.room) unused.links);
+  forms = omega (arith, limits.few_threads, ap (λ (p : PassView). p.seat.room) unused.forms);
+  holds = omega (arith, limits.few_threads, ap (λ (s : SeatView). s.room) unused.types);
+}
+
+module _ {J : Type 0} (given : Given) (linker : Linker J) (base : Pass J) (unused : IsUnused given linker base) where
+  -- no form was asked for before
+  base-asked : HasAsked [] base.forms
+  base-asked = subst (HasAsked []) (sym unused.forms) (none-asked linker.forms.now limit)
+
+  module _ (lanes : List (Lane J)) (joined : Joined J) (all : AreJoinedSoFar given base (length lanes) lanes joined) where
+    links-joined : AreJoined (map passes_of lanes) joined.pass.links
+    links-joined = record {
+      attempts = all.attempts ∙ ap (λ (p : LinkPass). p.attempts ++ flat_map (λ q. q.links.attempts) (map passes_of lanes)) unused.links;
+      numbers = all.numbers ∙ ap (λ (p : LinkPass). p.seat.numbers ++ flat_map (λ q. q.links.seat.numbers) (map passes_of lanes)) unused.links;
+      linked = all.linked;
+      each_once = all.links_known (subst EachOnce (sym (ap (λ (p : LinkPass). p.seat.numbers) unused.links)) none-once)
+          (let whole = ap (λ (p : LinkPass). p.seat.room + length p.seat.numbers) unused.links in omega (arith, whole, all.links_room));
+    }
+
+    forms-joined : KnowsDraws given [] base.forms (length lanes) lanes joined → AreFormsJoined (map passes_of lanes) joined.pass.forms
+    forms-joined known = record {
+      numbers = all.forms_numbers ∙ ap (λ (p : PassView). p.seat.numbers ++ flat_map (λ q. q.forms.seat.numbers) (map passes_of lanes)) unused.forms;
+      each_once = all.forms_known (subst EachOnce (sym (ap (λ (p : PassView). p.seat.numbers) unused.forms)) none-once)
+          (let whole = ap (λ (p : PassView). p.seat.room + length p.seat.numbers) unused.forms in omega (arith, whole, known.room));
+    }
+
+    -- the seat of types has all the room, but for what it holds
+    pub types-whole : joined.pass.types.room + length joined.pass.types.holds ≡ limit
+    types-whole = let whole = ap (λ (s : SeatView). s.room + length s.holds) unused.types in omega (arith, whole, all.types_room)
+
+    -- and it holds just what is recorded
+    pub types-just : HoldsJust given joined.pass.links.recorded joined.pass.types
+    types-just = just-recorded given joined.pass.links.recorded base.types joined.pass.types (ap (λ (s : SeatView). s.holds) unused.types)
+        (subst (λ (p : LinkPass). HoldsInstead given p.recorded joined.pass.links.recorded base.types joined.pass.types) unused.links all.types_held)
+
+    -- each lane has made its calls to their end
+    pub joined-all : joined.stop ≡ None → IsJoinedRun given lanes joined
+    joined-all none =
+        let ends = subst (EndsSoFar given base.forms lanes joined) none all.ends in
+        let known : KnowsDraws given [] base.forms (length lanes) lanes joined =
+        subst (λ reported. IfDrawsKnown reported (KnowsDraws given [] base.forms (length lanes) lanes joined)) none (all.draws [] base-asked) in
+        record {
+          used = all.used;
+          done = ends.0;
+          links = links-joined;
+          forms = forms-joined known;
+          asked = asked-edits given passes_of (λ (lane : Lane J). lane.calls.now) lanes joined.pass.forms (ends.1 [] base-asked);
+          results = ends.2;
+          keys = ends.3;
+        }
+
+    module _ (stop : Stop) (some : joined.stop ≡ Some stop) where
+      -- what is known of the error that is reported
+      stops-for : StopsFor joined stop.error
+      stops-for = subst (EndsSoFar given base.forms lanes joined) some all.ends
+
+      -- a lane has stopped for want of forms
+      pub joined-full : (drawn : ℕ) → stop.error ≡ FormsFull drawn → most_forms < draws_needed given (calls_of lanes)
+      joined-full drawn is =
+          let over = subst (StopsFor joined) is stops-for in
+          let known : KnowsDraws given [] base.forms (length lanes) lanes joined =
+          subst (λ e. IfForms e (KnowsDraws given [] base.forms (length lanes) lanes joined)) is
+          (subst (λ reported. IfDrawsKnown reported (KnowsDraws given [] base.forms (length lanes) lanes joined)) some (all.draws [] base-asked)) in
+          full given (calls_of lanes) (map passes_of lanes) all.used joined.pass.links links-joined [] (none-among (all_edits given (calls_of lanes)))
+          known.few joined.pass.forms drawn (forms-joined known) over.1 over.0
+
+      -- a lane has stopped for want of a slot
+      pub joined-no-slot : (bucket : ℕ) → stop.error ≡ TypesFull bucket → Overfill bucket (all_types given (calls_of lanes))
+      joined-no-slot bucket is =
+          let reported = subst (StopsFor joined) is stops-for in
+          no-slot-overfills bucket joined.pass.types (all_types given (calls_of lanes)) types-whole reported.1 reported.0
+          (asked-needed given lanes all.used joined.pass.links links-joined joined.pass.types
+          (subst (λ (s : SeatView). WasAsked (s.asked ++ lanes_types given lanes) joined.pass.types) unused.types all.types_asked))
+
+      -- it is the one that is reported of the lanes
+      pub joined-stop : stop_of (ends_of lanes) ≡ Some stop
+      joined-stop = sym all.stop_is ∙ some

@@ -1,0 +1,12 @@
+pub mod Items
+pub mod Places
+pub mod Repeating
+pub mod Parts
+pub mod Owners
+pub mod Numbers
+pub mod Serials
+pub mod Rising
+pub mod Ordered
+pub mod RecordedSites
+pub mod Ledger
+pub mod RunLedger

@@ -1,0 +1,4 @@
+pub mod ReportedStops
+pub mod LowestStops
+pub mod OutsideStops
+pub mod Reports
