@@ -1,5 +1,8 @@
--- What is known of the passes of all threads of a run, and of the passes that they are joined to. These are means of the proof of the ledger: each holds of one
--- thread's passes after its calls, or of what the join gives, and the ledger follows from all of them together.
+-- What is known of the passes of all threads of a run, and of the passes that they are joined to.
+-- These relations are conditions of the lemmas on a run's ledger, forms and numbers (`proofs/Ledger`, `Counted`, `Needed`).
+-- No caller of `run_all` has to meet them. Those of one thread follow from what `run_thread` promises (`has-run` of `proofs/LaneEnds`).
+-- Those of all threads hold before any lane is joined. Each lane that is joined keeps them (`joined-push` of `proofs/JoiningSteps`).
+-- Those of joined passes follow once all lanes are joined to a base with which nothing was done (`joined-all` of `proofs/WholeJoin`).
 use Rattle.std.specs.Prelude.{◌≡◌, ℕ, List, ◌++◌, length, map, Some, slice_get}
 use Rattle.std.specs.List.{All, flat_map, range_with_len}
 use Rattle.std.specs.List.Sorted.{IsPermutation}
@@ -21,53 +24,57 @@ pub record ThreadPasses : Type 0 where
   pub links : LinkPass
   pub forms : PassView
 
--- this thread has made these calls: its attempts are of the sites that they name
+-- This thread has made these calls: its attempts are of the sites that they name. It follows from `HasRun` of `Lanes`.
 pub record IsUsedBy (given : Given) (thread : ℕ) (calls : List Call) (passes : ThreadPasses) : Type 0 where
   pub thread_is : passes.links.thread ≡ thread
   pub run : IsThreadRun (flat_map sites_named calls) passes.links
 
--- it has drawn at most one number for each form that its calls and its attempts need, or that has one of the recipes before
+-- The thread has drawn at most one number for each recipe of its attempts, of its calls, and of those `before`.
+-- The recipes before are those that the base had asked for. It follows from `HasRun`, unless memory ran out (`DrawsFew` of `Lanes`).
 abbrev pub HasDrawnFew : Given → List (List Key) → List Call → ThreadPasses → Type 0
 HasDrawnFew given before calls passes =
     (whole : ℕ) × HasDrawn whole (run_edits given passes.links.attempts (before ++ thread_edits given.leaves calls)) passes.forms
 
--- it has made them to their end: each site that they name is linked
+-- The thread has made its calls to their end: each site that they name is linked. It follows from `HasRun`, if nothing stopped the thread.
 abbrev pub IsDoneBy : List Call → ThreadPasses → Type 0
 IsDoneBy calls passes = AreLinked passes.links.linked (flat_map sites_named calls)
 
--- each of these threads has used passes of its own
+-- each of these threads has used passes of its own, as `IsUsedBy` says
 pub record AreUsed (given : Given) (threads : List (List Call)) (all : List ThreadPasses) : Type 0 where
   pub count : length all ≡ length threads
   pub each : (thread : ℕ) (calls : List Call) (passes : ThreadPasses) → slice_get threads thread ≡ Some calls → slice_get all thread ≡ Some passes
       → IsUsedBy given thread calls passes
 
--- each of these threads has made its calls to their end
+-- Each of these threads has made its calls to their end. It is kept as long as no lane that was joined has stopped (`EndsSoFar` of `Joining`).
 abbrev pub AreDone : List (List Call) → List ThreadPasses → Type 0
 AreDone threads all = (thread : ℕ) (calls : List Call) (passes : ThreadPasses) → slice_get threads thread ≡ Some calls
     → slice_get all thread ≡ Some passes → IsDoneBy calls passes
 
--- each of these threads has drawn at most one number for each form that it needs, or that has one of the recipes before
+-- Each of these threads has drawn few numbers, as `HasDrawnFew` says.
+-- It is kept if no lane has stopped, or if lack of forms is reported: no lane lacked memory then (`KnowsDraws` of `Joining`).
 abbrev pub HaveDrawnFew : Given → List (List Key) → List (List Call) → List ThreadPasses → Type 0
 HaveDrawnFew given before threads all = (thread : ℕ) (calls : List Call) (passes : ThreadPasses) → slice_get threads thread ≡ Some calls
     → slice_get all thread ≡ Some passes → HasDrawnFew given before calls passes
 
--- passes over the call sites are joined to one: it has all their attempts, the serials that they drew, and what each has linked
+-- Passes over the call sites are joined to one: it has all their attempts, the serials that they drew, and what each has linked.
+-- No serial was drawn twice, because all seats were split off one seat that had all the room.
 pub record AreJoined (all : List ThreadPasses) (joined : LinkPass) : Type 0 where
   pub attempts : joined.attempts ≡ flat_map (λ p. p.links.attempts) all
   pub numbers : joined.seat.numbers ≡ flat_map (λ p. p.links.seat.numbers) all
   pub linked : All (λ p. HasSerials p.links.linked joined.linked) all
   pub each_once : EachOnce joined.seat.numbers
 
--- passes over the forms are joined to one: it has the numbers that they drew
+-- Passes over the forms are joined to one: it has the numbers that they drew. No number was drawn twice, for the same reason.
 pub record AreFormsJoined (all : List ThreadPasses) (joined : PassView) : Type 0 where
   pub numbers : joined.seat.numbers ≡ flat_map (λ p. p.forms.seat.numbers) all
   pub each_once : EachOnce joined.seat.numbers
 
--- the recipes of the forms that a run has asked for, thread by thread
+-- the recipes of the forms that a run has asked for: those of all attempts, thread by thread, and then those of all calls
 abbrev pub edits_of : Given → List (List Call) → List ThreadPasses → List (List Key)
 edits_of given threads all = flat_map (λ p. flat_map (attempt_edits given) p.links.attempts) all ++ plan_edits given.leaves threads
 
--- these are the attempts in the order of their serials, which are 1, 2, 3, ..
+-- These are the attempts in the order of their serials, which are 1, 2, 3, and so on.
+-- It follows because no serial was drawn twice, and because the joined attempts were sorted by serial (`in-order` of `proofs/Serials`).
 pub record AreInOrder (attempts ordered : List Attempt) : Type 0 where
   pub same : IsPermutation attempts ordered
   pub serials : map (λ a. a.serial) ordered ≡ range_with_len 1 (length ordered)
