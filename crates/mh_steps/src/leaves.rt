@@ -6,7 +6,7 @@ ghost use Rattle.mh_handle.specs.Works.{IsReady, GoesOn, leaves_of};
 ghost use Rattle.mh_steps.specs.AnyTypes.{TradesAnyAll, TradesAnyBoth, TradesAny};
 ghost use Rattle.mh_steps.specs.SomeCases.{StandForSome};
 
-use crate::literals::{type_of, value_of};
+use crate::literals::{checked_type, checked_value};
 use mh_base::Seq;
 use mh_branch::constant;
 use mh_handle::{Handle, HandleError, Work, leaf};
@@ -14,7 +14,10 @@ use mh_more::{Handles, with_first};
 use mh_values::LeafId;
 use std::sync::Wait;
 
-/// The handle of a leaf. A number that no leaf has is answered as lack of memory.
+/// The handle of a leaf. A number that no leaf has is answered as lack of memory; [`check`] finds it
+/// before.
+///
+/// [`check`]: crate::check
 pub(crate) fn leaf_at<'t, R: Wait>(
     w: &mut Work<'_, 't>,
     rt: &R,
@@ -91,8 +94,8 @@ pub(crate) fn constant_of<'t, R: Wait>(
     ensures stands { IfOk result (StandsForSome (leaves_of w.old)) }
 {
     let classes = w.leaves.classes();
-    let ret = type_of(w.alloc, text, classes)?.ret;
-    let value = value_of(w.alloc, value, classes)?;
+    let ret = checked_type(w.alloc, text, classes)?.ret;
+    let value = checked_value(w.alloc, value, classes)?;
     constant(w, rt, ret, value)
 }
 

@@ -2,7 +2,9 @@
 //! measurements share.
 #![tactic(auto)]
 
+mod broken;
 mod calling;
+mod checking;
 mod leaves;
 mod literals;
 mod making;
@@ -11,7 +13,9 @@ mod roots;
 mod start;
 mod step;
 
+pub use broken::Broken;
 pub use calling::call_typed;
+pub use checking::check;
 pub use literals::items_of;
 pub use making::made;
 pub use manifest::{

@@ -7,7 +7,7 @@ ghost use Rattle.mh_handle.specs.Works.{HoldsTypes, IsReady, IsUnchanged, GoesOn
 ghost use Rattle.mh_steps.specs.AnyTypes.{TradesAny};
 
 use crate::leaves::leaf_at;
-use crate::literals::{type_of, value_of};
+use crate::literals::{checked_type, checked_value};
 use crate::roots::rooted;
 use crate::step::{Joined, Root, Step, Typed};
 use mh_adapt::{bind, collect, drop_args, filter, filterret, fold, permute};
@@ -45,7 +45,7 @@ fn bound<'t, R: Wait>(
     ensures types { TradesAny target.entry.held w.old w.new result }
     ensures stands { IfOk result (StandsForSome (leaves_of w.old)) }
 {
-    match value_of(w.alloc, text, w.leaves.classes()) {
+    match checked_value(w.alloc, text, w.leaves.classes()) {
         Ok(value) => bind(w, rt, target, position, value),
         Err(NoMemory) => Err(given_back(w, target)),
     }
@@ -89,7 +89,7 @@ fn with_type<'t, R: Wait>(
     ensures types { TradesAny target.entry.held w.old w.new result }
     ensures stands { IfOk result (StandsForSome (leaves_of w.old)) }
 {
-    match type_of(w.alloc, text, w.leaves.classes()) {
+    match checked_type(w.alloc, text, w.leaves.classes()) {
         Ok(ty) => by_type(w, rt, target, &ty, how),
         Err(NoMemory) => Err(given_back(w, target)),
     }
@@ -179,7 +179,8 @@ fn adapted<'t, R: Wait>(
     }
 }
 
-/// The handle of a root after up to 100 steps, for which up to 219 numbers of forms may be drawn.
+/// The handle of a root after up to 100 steps, for which up to 219 numbers of forms may be drawn. What
+/// [`check`](crate::check) refuses is answered as lack of memory here.
 pub fn made<'t, R: Wait>(
     w: &mut Work<'_, 't>,
     rt: &R,

@@ -6,7 +6,7 @@ ghost use Rattle.mh_handle.specs.Works.{IsReady, GoesOn, leaves_of};
 ghost use Rattle.mh_steps.specs.AnyTypes.{TradesAny};
 
 use crate::leaves::{constant_of, leaf_at, leaves_at, two_constants, two_leaves};
-use crate::literals::type_of;
+use crate::literals::checked_type;
 use crate::step::Root;
 use mh_branch::{catch, guard, identity, throw};
 use mh_handle::{Handle, HandleError, Work};
@@ -54,9 +54,10 @@ fn caught<'t, R: Wait>(
 }
 
 /// One case more than a switch may have.
-const MOST_CASES: usize = 17;
+pub(crate) const MOST_CASES: usize = 17;
 
-/// A switch. More than 17 cases are answered as lack of memory.
+/// A switch. More than 17 cases are answered as lack of memory; [`check`](crate::check) finds them
+/// before.
 fn switched<'t, R: Wait>(
     w: &mut Work<'_, 't>,
     rt: &R,
@@ -134,11 +135,11 @@ pub(crate) fn rooted<'t, R: Wait>(
         Root::Leaf(id) => leaf_at(w, rt, id),
         Root::Constant(text, value) => constant_of(w, rt, text, value),
         Root::Identity(text) => {
-            let ty = type_of(w.alloc, text, classes)?.ret;
+            let ty = checked_type(w.alloc, text, classes)?.ret;
             identity(w, rt, ty)
         }
         Root::Throw(text, class) => {
-            let ret = type_of(w.alloc, text, classes)?.ret;
+            let ret = checked_type(w.alloc, text, classes)?.ret;
             throw(w, rt, ret, class)
         }
         Root::Guard(test, target, fallback) => guarded(w, rt, test, target, fallback),
