@@ -50,9 +50,11 @@ fn what_one_has_put_another_one_finds(rt: HostRuntime) -> Result<(), Fail> {
     let cells: Cells<Entry<Single>> = Cells::new(alloc, 4)?;
     let mut first = Known::new(alloc, &cells)?;
     let mut second = Known::new(alloc, &cells)?;
-    assert!(rt; put(&rt, alloc, &mut first, 3, 1) == 1 && seen(&first, 3) == 1);
-    assert!(rt; seen(&second, 3) == 0 && found(&mut second, 3) == 1 && seen(&second, 3) == 1);
-    assert!(rt; found(&mut second, 2) == 0);
+    assert_eq!(rt; put(&rt, alloc, &mut first, 3, 1), 1);
+    assert_eq!(rt; (seen(&first, 3), seen(&second, 3)), (1, 0));
+    assert_eq!(rt; found(&mut second, 3), 1);
+    assert_eq!(rt; seen(&second, 3), 1);
+    assert_eq!(rt; found(&mut second, 2), 0);
     Ok(())
 }
 
@@ -62,8 +64,9 @@ fn a_cell_that_is_set_is_not_set_again(rt: HostRuntime) -> Result<(), Fail> {
     let cells: Cells<Entry<Single>> = Cells::new(alloc, 1)?;
     let mut first = Known::new(alloc, &cells)?;
     let mut second = Known::new(alloc, &cells)?;
-    assert!(rt; put(&rt, alloc, &mut first, 0, 1) == 1);
-    assert!(rt; put(&rt, alloc, &mut second, 0, 2) == 1 && put(&rt, alloc, &mut first, 0, 3) == 1);
+    assert_eq!(rt; put(&rt, alloc, &mut first, 0, 1), 1);
+    assert_eq!(rt; put(&rt, alloc, &mut second, 0, 2), 1);
+    assert_eq!(rt; put(&rt, alloc, &mut first, 0, 3), 1);
     Ok(())
 }
 
@@ -72,12 +75,15 @@ fn a_copy_learns_on_its_own(rt: HostRuntime) -> Result<(), Fail> {
     let alloc = rt.alloc();
     let cells: Cells<Entry<Single>> = Cells::new(alloc, 4)?;
     let mut known = Known::new(alloc, &cells)?;
-    assert!(rt; put(&rt, alloc, &mut known, 0, 1) == 1);
+    assert_eq!(rt; put(&rt, alloc, &mut known, 0, 1), 1);
     let mut copy = known.copy(alloc)?;
-    assert!(rt; put(&rt, alloc, &mut copy, 1, 2) == 2);
-    assert!(rt; seen(&copy, 0) == 1 && seen(&known, 1) == 0);
+    assert_eq!(rt; put(&rt, alloc, &mut copy, 1, 2), 2);
+    assert_eq!(rt; (seen(&copy, 0), seen(&known, 1)), (1, 0));
     known.join(copy);
-    assert!(rt; seen(&known, 0) == 1 && seen(&known, 1) == 2 && seen(&known, 2) == 0);
+    assert_eq!(rt;
+        (seen(&known, 0), seen(&known, 1), seen(&known, 2)),
+        (1, 2, 0)
+    );
     Ok(())
 }
 
@@ -100,13 +106,14 @@ fn put_all<'t, R: Wait>(
     Ok(known)
 }
 
-/// Whether two threads that put an entry of each key have learnt the same entry of each.
+/// Two threads put an entry of each key. The answer is the first key of which they have not learnt
+/// the same entry, with who put it for each; 0 if none was learnt.
 fn race<R: Threads + Wait + Sync>(
     rt: &R,
     alloc: Global,
     cells: &Cells<Entry<Single>>,
     count: u32,
-) -> Result<bool, NoMemory>
+) -> Result<Option<(u32, u32, u32)>, NoMemory>
     requires { count ≤ length cells.now }
 {
     let (a, b) = thread::join(
@@ -120,16 +127,17 @@ fn race<R: Threads + Wait + Sync>(
     );
     let (a, b) = (a?, b?);
     for key in 0..count {
-        if seen(&a, key) == 0 || seen(&a, key) != seen(&b, key) {
-            return Ok(false);
+        let (by_a, by_b) = (seen(&a, key), seen(&b, key));
+        if by_a == 0 || by_a != by_b {
+            return Ok(Some((key, by_a, by_b)));
         }
     }
-    Ok(true)
+    Ok(None)
 }
 
 #[test]
 fn threads_that_race_for_cells_have_the_same_entries(rt: HostRuntime) -> Result<(), Fail> {
     let cells: Cells<Entry<Single>> = Cells::new(rt.alloc(), 300)?;
-    assert!(rt; race(&rt, rt.alloc(), &cells, 300)?);
+    assert_eq!(rt; race(&rt, rt.alloc(), &cells, 300)?, None);
     Ok(())
 }

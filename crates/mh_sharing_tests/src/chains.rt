@@ -8,7 +8,7 @@ use std::sync::Wait;
 use std::test::Fail;
 
 /// What a put gave: who put the entry that stands in the chain, or why there is none.
-#[derive(Clone, Copy, PartialEq, Eq)]
+#[derive(Clone, Copy, Debug, PartialEq, Eq)]
 enum Answer {
     Mine,
     Theirs(u32),
@@ -35,33 +35,33 @@ fn put<'t, S: Size, R: Wait>(
     }
 }
 
-/// Whether the walk finds an entry with the key that `by` put.
-fn finds<'t, S: Size>(
+/// Who put the entry with the key that the walk finds, if it finds one.
+fn found<'t, S: Size>(
     chain: &'t Chain<Entry<S>>,
     walk: &mut Walk<'t, Entry<S>>,
     key: u32,
-    by: u32,
-) -> Result<bool, NoMemory>
+) -> Result<Option<u32>, NoMemory>
     requires { walk.old.chain ≡ chain.now }
     ensures { walk.new.chain ≡ walk.old.chain }
 {
     match chain.find(walk, &key)? {
-        Some(node) => Ok(node.by == by),
-        None => Ok(false),
+        Some(node) => Ok(Some(node.by)),
+        None => Ok(None),
     }
 }
 
-/// Whether a copy of the second walk has seen key 7 alone, and the first begins with it.
-fn copies<S: Size>(
+/// Whether a copy of the second walk has seen the keys 7 and 8, its length, and how many nodes of it
+/// the first walk begins with.
+fn copied<S: Size>(
     chain: &Chain<Entry<S>>,
     first: &Walk<Entry<S>>,
     second: &Walk<Entry<S>>,
-) -> Result<bool, NoMemory>
+) -> Result<(bool, bool, usize, usize), NoMemory>
     requires { (first.now.chain ≡ chain.now) × (second.now.chain ≡ chain.now) }
 {
     let copy = second.copy()?;
-    let is_alone = copy.seen(&7).is_some() && copy.seen(&8).is_none();
-    Ok(is_alone && copy.len() == 1 && chain.meet(first, &copy) == 1)
+    let (seven, eight) = (copy.seen(&7).is_some(), copy.seen(&8).is_some());
+    Ok((seven, eight, copy.len(), chain.meet(first, &copy)))
 }
 
 #[test]
@@ -70,10 +70,16 @@ fn a_second_walk_finds_what_was_put_through_the_first(rt: HostRuntime) -> Result
     let chain: Chain<Entry<Wide>> = Chain::new(alloc, 4)?;
     let mut first = chain.walk(alloc);
     let mut second = chain.walk(alloc);
-    assert!(rt; put(&rt, alloc, &chain, &mut first, Entry::new(7, 1)) == Answer::Mine);
-    assert!(rt; finds(&chain, &mut second, 7, 1)?);
-    assert!(rt; put(&rt, alloc, &chain, &mut second, Entry::new(7, 2)) == Answer::Theirs(1));
-    assert!(rt; copies(&chain, &first, &second)?);
+    assert_eq!(rt;
+        put(&rt, alloc, &chain, &mut first, Entry::new(7, 1)),
+        Answer::Mine
+    );
+    assert_eq!(rt; found(&chain, &mut second, 7)?, Some(1));
+    assert_eq!(rt;
+        put(&rt, alloc, &chain, &mut second, Entry::new(7, 2)),
+        Answer::Theirs(1)
+    );
+    assert_eq!(rt; copied(&chain, &first, &second)?, (true, false, 1, 1));
     Ok(())
 }
 
@@ -82,10 +88,22 @@ fn a_full_chain_hands_the_value_back(rt: HostRuntime) -> Result<(), Fail> {
     let alloc = rt.alloc();
     let chain: Chain<Entry<Single>> = Chain::new(alloc, 2)?;
     let mut walk = chain.walk(alloc);
-    assert!(rt; put(&rt, alloc, &chain, &mut walk, Entry::new(1, 1)) == Answer::Mine);
-    assert!(rt; put(&rt, alloc, &chain, &mut walk, Entry::new(9, 1)) == Answer::Mine);
-    assert!(rt; put(&rt, alloc, &chain, &mut walk, Entry::new(2, 1)) == Answer::Full);
-    assert!(rt; put(&rt, alloc, &chain, &mut walk, Entry::new(9, 2)) == Answer::Theirs(1));
+    assert_eq!(rt;
+        put(&rt, alloc, &chain, &mut walk, Entry::new(1, 1)),
+        Answer::Mine
+    );
+    assert_eq!(rt;
+        put(&rt, alloc, &chain, &mut walk, Entry::new(9, 1)),
+        Answer::Mine
+    );
+    assert_eq!(rt;
+        put(&rt, alloc, &chain, &mut walk, Entry::new(2, 1)),
+        Answer::Full
+    );
+    assert_eq!(rt;
+        put(&rt, alloc, &chain, &mut walk, Entry::new(9, 2)),
+        Answer::Theirs(1)
+    );
     Ok(())
 }
 
@@ -94,12 +112,22 @@ fn a_copy_and_its_walk_learn_on(rt: HostRuntime) -> Result<(), Fail> {
     let alloc = rt.alloc();
     let chain: Chain<Entry<Single>> = Chain::new(alloc, 4)?;
     let mut walk = chain.walk(alloc);
-    assert!(rt; put(&rt, alloc, &chain, &mut walk, Entry::new(1, 1)) == Answer::Mine);
+    assert_eq!(rt;
+        put(&rt, alloc, &chain, &mut walk, Entry::new(1, 1)),
+        Answer::Mine
+    );
     let mut copy = walk.copy()?;
-    assert!(rt; put(&rt, alloc, &chain, &mut copy, Entry::new(9, 2)) == Answer::Mine);
-    assert!(rt; put(&rt, alloc, &chain, &mut walk, Entry::new(17, 1)) == Answer::Mine);
-    assert!(rt; finds(&chain, &mut walk, 9, 2)? && finds(&chain, &mut copy, 17, 1)?);
-    assert!(rt; chain.meet(&walk, &copy) == 3);
+    assert_eq!(rt;
+        put(&rt, alloc, &chain, &mut copy, Entry::new(9, 2)),
+        Answer::Mine
+    );
+    assert_eq!(rt;
+        put(&rt, alloc, &chain, &mut walk, Entry::new(17, 1)),
+        Answer::Mine
+    );
+    assert_eq!(rt; found(&chain, &mut walk, 9)?, Some(2));
+    assert_eq!(rt; found(&chain, &mut copy, 17)?, Some(1));
+    assert_eq!(rt; chain.meet(&walk, &copy), 3);
     Ok(())
 }
 
@@ -108,7 +136,10 @@ fn where_no_row_can_be_made_the_value_is_handed_back(rt: HostRuntime) -> Result<
     let alloc = rt.alloc();
     let chain: Chain<Entry<Endless>> = Chain::new(alloc, 4)?;
     let mut walk = chain.walk(alloc);
-    assert!(rt; put(&rt, alloc, &chain, &mut walk, Entry::new(1, 1)) == Answer::NoMemory);
-    assert!(rt; !finds(&chain, &mut walk, 1, 1)?);
+    assert_eq!(rt;
+        put(&rt, alloc, &chain, &mut walk, Entry::new(1, 1)),
+        Answer::NoMemory
+    );
+    assert_eq!(rt; found(&chain, &mut walk, 1)?, None);
     Ok(())
 }

@@ -16,14 +16,14 @@ fn put(places: &mut Places, hash: u32) -> Result<(), NoMemory>
 #[test]
 fn the_latest_place_of_a_hash_comes_first(rt: HostRuntime) -> Result<(), Fail> {
     let mut places = Places::new(rt.alloc());
-    assert!(rt; places.latest(5).is_none());
+    assert_eq!(rt; places.latest(5), None);
     put(&mut places, 5)?;
     put(&mut places, 13)?;
     put(&mut places, 5)?;
-    assert!(rt; places.latest(5) == Some(2));
-    assert!(rt; places.earlier(2) == Some(0));
-    assert!(rt; places.earlier(0).is_none());
-    assert!(rt; places.latest(21).is_none());
+    assert_eq!(rt; places.latest(5), Some(2));
+    assert_eq!(rt; places.earlier(2), Some(0));
+    assert_eq!(rt; places.earlier(0), None);
+    assert_eq!(rt; places.latest(21), None);
     Ok(())
 }
 
@@ -34,7 +34,8 @@ fn places_stay_found_as_the_buckets_grow(rt: HostRuntime) -> Result<(), Fail> {
         put(&mut places, hash)?;
     }
     let copy = places.copy()?;
-    assert!(rt; places.latest(7) == Some(7) && copy.latest(99) == Some(99));
-    assert!(rt; copy.len() == 100 && copy.latest(100).is_none());
+    assert_eq!(rt; places.latest(7), Some(7));
+    assert_eq!(rt; copy.latest(99), Some(99));
+    assert_eq!(rt; (copy.len(), copy.latest(100)), (100, None));
     Ok(())
 }

@@ -26,7 +26,7 @@ fn no_worker_waits_for_another(rt: HostRuntime) -> Result<(), Fail> {
     for worker in workers.as_slice() {
         let count = worker.taken.len();
         assert!(rt; count == 1 || count == 7, "{count} items");
-        assert!(rt; worker.pass as usize == count && worker.stop.is_none());
+        assert_eq!(rt; (worker.pass as usize, worker.stop), (count, None));
     }
     Ok(())
 }
@@ -48,8 +48,11 @@ fn one_worker_takes_all_in_order(rt: HostRuntime) -> Result<(), Fail> {
     let workers = prelink(&rt, rt.alloc(), &held, passes, 8)?;
     assert_eq!(rt; workers.len(), 1);
     let worker = workers.get(0);
-    assert!(rt; worker.taken.as_slice() == [0, 1, 2, 3, 4, 5, 6, 7].as_slice());
-    assert!(rt; worker.pass == 13 && worker.stop.is_none());
+    assert_eq!(rt;
+        worker.taken.as_slice(),
+        [0, 1, 2, 3, 4, 5, 6, 7].as_slice()
+    );
+    assert_eq!(rt; (worker.pass, worker.stop), (13, None));
     Ok(())
 }
 
@@ -70,8 +73,8 @@ fn a_worker_that_stops_takes_no_more(rt: HostRuntime) -> Result<(), Fail> {
     let workers = prelink(&rt, rt.alloc(), &held, passes, 8)?;
     assert_eq!(rt; workers.len(), 1);
     let worker = workers.get(0);
-    assert!(rt; worker.taken.as_slice() == [0, 1, 2, 3].as_slice());
-    assert!(rt; worker.pass == 4 && worker.stop == Some(3));
+    assert_eq!(rt; worker.taken.as_slice(), [0, 1, 2, 3].as_slice());
+    assert_eq!(rt; (worker.pass, worker.stop), (4, Some(3)));
     Ok(())
 }
 

@@ -6,7 +6,7 @@ ghost use Rattle.mh_values.specs.declared.value.Num.TheVariants as num;
 ghost use Rattle.mh_values.specs.declared.value.Value.TheVariants as value;
 ghost use Rattle.mh_form.specs.declared.slot.Slot.TheVariants as slot;
 
-use crate::bodies::{gives, naming, one_place};
+use crate::bodies::{gives, naming, one_place, text};
 use mh_base::{Frozen, NoMemory, Seq};
 use mh_form::{Field, Name, Slot};
 use mh_values::{Cell, ClassId, Comp, Num, Primitive, Value};
@@ -28,7 +28,8 @@ fn makes_arrays(rt: HostRuntime) -> Result<(), Fail> {
     let name = Name::MakeArray(0, one_place(rt.alloc(), 0)?);
     let ints = Field::Comp(Comp::Prim(Primitive::I));
     let body = naming(rt.alloc(), name, 1)?;
-    assert!(rt; gives(rt.alloc(), &body, ints, Slot::I(7), "a:I[i:7]")?);
+    let gave = gives(rt.alloc(), &body, ints, Slot::I(7))?;
+    assert_eq!(rt; text(&gave), "a:I[i:7]");
     Ok(())
 }
 
@@ -36,9 +37,9 @@ fn makes_arrays(rt: HostRuntime) -> Result<(), Fail> {
 fn refuses_arrays_of_other_lengths(rt: HostRuntime) -> Result<(), Fail> {
     let array = ints(rt.alloc(), 5, 6)?;
     let field = Field::Val(Slot::I(0));
-    let wanted = "java/lang/IllegalArgumentException s:spread";
     let body = naming(rt.alloc(), Name::CheckArray(0, 1), 1)?;
-    assert!(rt; gives(rt.alloc(), &body, field, array, wanted)?);
+    let gave = gives(rt.alloc(), &body, field, array)?;
+    assert_eq!(rt; text(&gave), "java/lang/IllegalArgumentException s:spread");
     Ok(())
 }
 
@@ -47,6 +48,7 @@ fn takes_items(rt: HostRuntime) -> Result<(), Fail> {
     let array = ints(rt.alloc(), 5, 6)?;
     let field = Field::Val(Slot::I(0));
     let body = naming(rt.alloc(), Name::Elem(0, 1), 1)?;
-    assert!(rt; gives(rt.alloc(), &body, field, array, "i:6")?);
+    let gave = gives(rt.alloc(), &body, field, array)?;
+    assert_eq!(rt; text(&gave), "i:6");
     Ok(())
 }

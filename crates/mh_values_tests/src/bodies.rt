@@ -8,16 +8,16 @@ ghost use Rattle.mh_values_tests.specs.Host.{naming};
 
 use mh_base::{NoMemory, Seq};
 use mh_form::{Bound, Field, FormBody, Name, Operands, Ran, Slot, SlotOutcome, Slots, run};
-use mh_leaves::{Leaves, read_manifest};
+use mh_leaves::{Leaves, ManifestError, read_manifest};
 use mh_texts::{show_exc, show_value};
 use mh_values::{Classes, Num, Value};
 use std::alloc::Global;
 
 /// The built-in classes, and no leaf.
-fn no_leaves(alloc: Global) -> Result<Leaves, NoMemory>
+fn no_leaves(alloc: Global) -> Result<Leaves, ManifestError>
     ensures { IfOk result (λ leaves. leaves ≡ nothing_registered) }
 {
-    read_manifest(alloc, b"").map_err(|_| NoMemory)
+    read_manifest(alloc, b"")
 }
 
 /// A body of one name, with one field.
@@ -78,33 +78,31 @@ fn show_slot(alloc: Global, slot: &Slot, classes: &Classes) -> Result<Vec<u8>, N
     }
 }
 
-/// Whether a run gave this: a slot as a literal, or an exception's class and message.
-pub fn gave(
-    alloc: Global,
-    outcome: &SlotOutcome,
-    classes: &Classes,
-    wanted: &str,
-) -> Result<bool, NoMemory> {
-    let text = match outcome {
-        SlotOutcome::Return(None) => Vec::new(alloc),
-        SlotOutcome::Return(Some(slot)) => show_slot(alloc, slot, classes)?,
-        SlotOutcome::Throw(exc) => show_exc(alloc, exc, classes)?,
-    };
-    Ok(text.as_slice() == wanted.as_bytes())
+/// Bytes as a text; `?` if they are none.
+pub fn text(bytes: &[u8]) -> &str {
+    str::from_utf8(bytes).unwrap_or("?")
 }
 
-/// Whether a body gives this on one field and one argument.
+/// What a run gave: a slot as a literal, or an exception's class and message.
+pub fn gave(alloc: Global, outcome: &SlotOutcome, classes: &Classes) -> Result<Vec<u8>, NoMemory> {
+    match outcome {
+        SlotOutcome::Return(None) => Ok(Vec::new(alloc)),
+        SlotOutcome::Return(Some(slot)) => show_slot(alloc, slot, classes),
+        SlotOutcome::Throw(exc) => show_exc(alloc, exc, classes),
+    }
+}
+
+/// What a body gives on one field and one argument.
 pub fn gives<'t>(
     alloc: Global,
     body: &'t FormBody,
     field: Field<'t>,
     slot: Slot,
-    wanted: &str,
-) -> Result<bool, NoMemory>
+) -> Result<Vec<u8>, ManifestError>
     requires { run_on nothing_registered body.now (field ∷ []) (slot ∷ []) 0 ≢ Stuck }
 {
     let leaves = no_leaves(alloc)?;
     let args = one(alloc, slot)?;
     let ran = run_body(alloc, &leaves, body, field, args)?;
-    gave(alloc, &ran.outcome, leaves.classes(), wanted)
+    Ok(gave(alloc, &ran.outcome, leaves.classes())?)
 }

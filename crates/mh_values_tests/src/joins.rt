@@ -3,9 +3,10 @@ ghost use Rattle.mh_values.specs.declared.types.Primitive.TheVariants as primiti
 ghost use Rattle.mh_values.specs.declared.types.Ty.TheVariants as ty;
 ghost use Rattle.mh_pieces.specs.declared.piece.Piece.TheVariants as piece;
 
-use crate::bodies::{gives, naming, one_place};
+use crate::bodies::{gives, naming, one_place, text};
 use mh_base::{Frozen, NoMemory, Seq};
 use mh_form::{Field, Name, Piece, Pieces, Slot, join_pieces};
+use mh_texts::{show_exc, show_value};
 use mh_values::{Classes, Num, Outcome, Primitive, Ty, Value, are_typed};
 use std::alloc::Global;
 use std::test::Fail;
@@ -25,29 +26,30 @@ fn joins_pieces(rt: HostRuntime) -> Result<(), Fail> {
     let name = Name::Join(0, one_place(rt.alloc(), 0)?);
     let field = Field::Joined(labelled(rt.alloc())?);
     let body = naming(rt.alloc(), name, 1)?;
-    assert!(rt; gives(rt.alloc(), &body, field, Slot::I(1), "s:x=true")?);
+    let gave = gives(rt.alloc(), &body, field, Slot::I(1))?;
+    assert_eq!(rt; text(&gave), "s:x=true");
     Ok(())
 }
 
-/// What the pieces join a boolean to.
-fn joined(alloc: Global) -> Result<Outcome, NoMemory> {
+/// What the pieces join a boolean to, if they take one.
+fn joined(alloc: Global) -> Result<Option<Vec<u8>>, NoMemory> {
     let classes = Classes::builtin(alloc)?;
     let pieces = labelled(alloc)?;
     let args = Seq::from_vec(vec![in alloc; Value::Prim(Num::Z(false))]?);
     if !are_typed(args.as_slice(), pieces.arg_types().as_slice(), &classes) {
-        return Err(NoMemory);
+        return Ok(None);
     }
-    join_pieces(alloc, &pieces, &args, &classes)
+    let shown = match join_pieces(alloc, &pieces, &args, &classes)? {
+        Outcome::Return(None) => Vec::new(alloc),
+        Outcome::Return(Some(value)) => show_value(alloc, &value, &classes)?,
+        Outcome::Throw(exc) => show_exc(alloc, &exc, &classes)?,
+    };
+    Ok(Some(shown))
 }
 
 #[test]
 fn joins_arguments(rt: HostRuntime) -> Result<(), Fail> {
-    let outcome = joined(rt.alloc())?;
-    let is_joined = match &outcome {
-        Outcome::Return(Some(Value::Text(text))) => text.as_slice()
-            == ['x', '=', 'f', 'a', 'l', 's', 'e'].as_slice(),
-        _ => false,
-    };
-    assert!(rt; is_joined);
+    let joined = joined(rt.alloc())?.ok_or("pieces that take no boolean")?;
+    assert_eq!(rt; text(&joined), "s:x=false");
     Ok(())
 }

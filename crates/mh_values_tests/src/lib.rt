@@ -28,4 +28,4 @@ mod scripts;
 #[cfg(test)]
 mod values;
 
-pub use bodies::{gave, gives, naming, one, one_place};
+pub use bodies::{gave, gives, naming, one, one_place, text};

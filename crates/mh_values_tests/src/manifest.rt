@@ -1,7 +1,6 @@
-use mh_base::NoMemory;
 use mh_leaves::How::{Any, Static, Virtual};
 use mh_leaves::Missing::{NoClass, NoMethod};
-use mh_leaves::{How, Leaves, Missing, read_manifest};
+use mh_leaves::{How, Missing, read_manifest};
 use mh_values::LeafId;
 use std::test::Fail;
 
@@ -25,22 +24,19 @@ static FOUND: [Row; 8] = [
     ("b", "f", "(II)I", Any, Err(NoClass)),
 ];
 
-/// Whether the texts of a leaf find what is wanted.
-fn is_found(leaves: &Leaves, (owner, name, descriptor, how, want): Row) -> bool {
-    let owner = owner.as_bytes();
-    leaves.find(owner, name.as_bytes(), descriptor.as_bytes(), how) == want
-}
-
 #[test]
 fn leaves_are_found_by_their_texts(rt: HostRuntime) -> Result<(), Fail> {
     let manifest = b"class a java/lang/Object\nstatic a f (II)I iadd\nvirtual a f (I)I tick\n";
-    let leaves = read_manifest(rt.alloc(), manifest).map_err(|_| NoMemory)?;
+    let leaves = read_manifest(rt.alloc(), manifest)?;
     for row in FOUND.iter().copied() {
-        let (owner, name, descriptor, how, _) = row;
-        assert!(rt;
-            is_found(&leaves, row),
-            "{owner}.{name}:{descriptor} {how:?}"
+        let (owner, name, descriptor, how, want) = row;
+        let found = leaves.find(
+            owner.as_bytes(),
+            name.as_bytes(),
+            descriptor.as_bytes(),
+            how,
         );
+        assert_eq!(rt; found, want, "{owner}.{name}:{descriptor} {how:?}");
     }
     Ok(())
 }

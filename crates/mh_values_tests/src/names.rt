@@ -1,4 +1,4 @@
-use crate::bodies::{gives, naming};
+use crate::bodies::{gives, naming, text};
 use mh_convert::{Conv, RetConv};
 use mh_form::{Field, Name, Slot};
 use mh_values::{ClassId, Exc, Num, Primitive, Ty, Value};
@@ -24,7 +24,8 @@ const CASTING: Conv = Conv {
 fn gets(rt: HostRuntime) -> Result<(), Fail> {
     let field = Field::Val(Slot::J(5));
     let body = naming(rt.alloc(), Name::Get(0), 1)?;
-    assert!(rt; gives(rt.alloc(), &body, field, Slot::I(0), "j:5")?);
+    let gave = gives(rt.alloc(), &body, field, Slot::I(0))?;
+    assert_eq!(rt; text(&gave), "j:5");
     Ok(())
 }
 
@@ -32,7 +33,8 @@ fn gets(rt: HostRuntime) -> Result<(), Fail> {
 fn boxes(rt: HostRuntime) -> Result<(), Fail> {
     let field = Field::Conv(BOXING);
     let body = naming(rt.alloc(), Name::Conv(0, 0), 1)?;
-    assert!(rt; gives(rt.alloc(), &body, field, Slot::I(7), "I:7")?);
+    let gave = gives(rt.alloc(), &body, field, Slot::I(7))?;
+    assert_eq!(rt; text(&gave), "I:7");
     Ok(())
 }
 
@@ -41,7 +43,8 @@ fn casts(rt: HostRuntime) -> Result<(), Fail> {
     let field = Field::Conv(CASTING);
     let boxed = Slot::L(Value::Boxed(Num::I(7)));
     let body = naming(rt.alloc(), Name::Cast(0, 0), 1)?;
-    assert!(rt; gives(rt.alloc(), &body, field, boxed, "I:7")?);
+    let gave = gives(rt.alloc(), &body, field, boxed)?;
+    assert_eq!(rt; text(&gave), "I:7");
     Ok(())
 }
 
@@ -49,7 +52,8 @@ fn casts(rt: HostRuntime) -> Result<(), Fail> {
 fn keeps_results(rt: HostRuntime) -> Result<(), Fail> {
     let field = Field::Ret(RetConv::Keep);
     let body = naming(rt.alloc(), Name::Ret(0, Some(0)), 1)?;
-    assert!(rt; gives(rt.alloc(), &body, field, Slot::J(5), "j:5")?);
+    let gave = gives(rt.alloc(), &body, field, Slot::J(5))?;
+    assert_eq!(rt; text(&gave), "j:5");
     Ok(())
 }
 
@@ -58,8 +62,11 @@ fn raises(rt: HostRuntime) -> Result<(), Fail> {
     let exc = Exc::saying(rt.alloc(), ClassId::ARITHMETIC, b"/ by zero")?;
     let thrown = Slot::L(Value::Thrown(exc));
     let field = Field::Val(Slot::I(0));
-    let wanted = "java/lang/ArithmeticException s:/\\sby\\szero";
     let body = naming(rt.alloc(), Name::Raise(0), 1)?;
-    assert!(rt; gives(rt.alloc(), &body, field, thrown, wanted)?);
+    let gave = gives(rt.alloc(), &body, field, thrown)?;
+    assert_eq!(rt;
+        text(&gave),
+        "java/lang/ArithmeticException s:/\\sby\\szero"
+    );
     Ok(())
 }

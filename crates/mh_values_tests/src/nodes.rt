@@ -4,7 +4,7 @@ ghost use Rattle.std.specs.Prelude.{◌≡◌, IfOk, Ok};
 ghost use Rattle.mh_values.specs.Descriptor.{desc};
 
 use mh_base::{NoMemory, Seq};
-use mh_leaves::{How, Leaves};
+use mh_leaves::{How, Leaves, Missing};
 use mh_tree::{
     CheckError, check_astype, check_bind, check_catch, check_collect, check_constant,
     check_counted, check_drop, check_filter, check_filterret, check_fold, check_gather,
@@ -12,7 +12,8 @@ use mh_tree::{
     check_throw, check_tryfinally,
 };
 use mh_values::{
-    ClassId, Classes, MethodTy, Num, Ty, Tys, Value, read_descriptor, read_type, read_types,
+    ClassId, Classes, DescriptorError, Exc, MethodTy, Num, Ty, Value, read_descriptor, read_type,
+    read_types,
 };
 use std::alloc::Global;
 
@@ -62,6 +63,48 @@ pub enum Node {
     Counted(&'static str, &'static str, &'static str),
 }
 
+/// Why a check gives no type.
+#[derive(Debug, Drop)]
+pub(crate) enum Unchecked {
+    NoMemory,
+    /// The node is refused.
+    Refused(Exc),
+    /// A text of the node is not read as what it should be.
+    BadText(DescriptorError),
+    /// The leaf of the node is not found.
+    NoLeaf(Missing),
+}
+
+impl From<NoMemory> for Unchecked {
+    fn from(_: NoMemory) -> Self {
+        Unchecked::NoMemory
+    }
+}
+
+impl From<CheckError> for Unchecked {
+    fn from(error: CheckError) -> Self {
+        match error {
+            CheckError::NoMemory => Unchecked::NoMemory,
+            CheckError::Refused(exc) => Unchecked::Refused(exc),
+        }
+    }
+}
+
+impl From<DescriptorError> for Unchecked {
+    fn from(error: DescriptorError) -> Self {
+        match error {
+            DescriptorError::NoMemory => Unchecked::NoMemory,
+            bad => Unchecked::BadText(bad),
+        }
+    }
+}
+
+impl From<Missing> for Unchecked {
+    fn from(missing: Missing) -> Self {
+        Unchecked::NoLeaf(missing)
+    }
+}
+
 fn value(given: Given) -> Value {
     match given {
         Given::Null => Value::Null,
@@ -75,30 +118,24 @@ pub(crate) fn method_type(
     alloc: Global,
     text: &str,
     classes: &Classes,
-) -> Result<MethodTy, NoMemory>
+) -> Result<MethodTy, DescriptorError>
     ensures { IfOk result (λ ty. desc classes.now text.now ≡ Ok ty) }
 {
-    match read_descriptor(alloc, text.as_bytes(), classes) {
-        Ok(ty) => Ok(ty),
-        Err(_) => Err(NoMemory),
-    }
-}
-
-fn types(alloc: Global, text: &str, classes: &Classes) -> Result<Tys, NoMemory> {
-    read_types(alloc, text.as_bytes(), classes).map_err(|_| NoMemory)
+    read_descriptor(alloc, text.as_bytes(), classes)
 }
 
 /// A type, and nothing for `V`.
-fn option_type(text: &str, classes: &Classes) -> Option<Ty> {
-    read_type(text.as_bytes(), classes).ok()
+fn option_type(text: &str, classes: &Classes) -> Result<Option<Ty>, DescriptorError> {
+    if text == "V" {
+        return Ok(None);
+    }
+    Ok(Some(read_type(text.as_bytes(), classes)?))
 }
 
 /// The type of the leaf `demo/Host.add`.
-fn checked_leaf(alloc: Global, leaves: &Leaves) -> Result<MethodTy, CheckError> {
-    match leaves.find(b"demo/Host", b"add", b"(II)I", How::Static) {
-        Ok(leaf) => check_leaf(alloc, leaf, leaves),
-        Err(_) => Err(CheckError::NoMemory),
-    }
+fn checked_leaf(alloc: Global, leaves: &Leaves) -> Result<MethodTy, Unchecked> {
+    let leaf = leaves.find(b"demo/Host", b"add", b"(II)I", How::Static)?;
+    Ok(check_leaf(alloc, leaf, leaves)?)
 }
 
 /// The type of a node that drops arguments of these types.
@@ -108,9 +145,9 @@ fn checked_drop(
     t: &MethodTy,
     weight: u32,
     (pos, put): (u8, &str),
-) -> Result<MethodTy, CheckError> {
-    let put = types(alloc, put, classes)?;
-    check_drop(alloc, t, weight, pos, &put, classes)
+) -> Result<MethodTy, Unchecked> {
+    let put = read_types(alloc, put.as_bytes(), classes)?;
+    Ok(check_drop(alloc, t, weight, pos, &put, classes)?)
 }
 
 /// The type of a node that permutes arguments to this type.
@@ -120,9 +157,9 @@ fn checked_permute(
     t: &MethodTy,
     weight: u32,
     (asked, order): (&str, &[u8]),
-) -> Result<MethodTy, CheckError> {
+) -> Result<MethodTy, Unchecked> {
     let asked = method_type(alloc, asked, classes)?;
-    check_permute(alloc, t, weight, &asked, order, classes)
+    Ok(check_permute(alloc, t, weight, &asked, order, classes)?)
 }
 
 /// The type of a node that converts to this type.
@@ -132,9 +169,9 @@ fn checked_astype(
     t: &MethodTy,
     weight: u32,
     asked: &str,
-) -> Result<MethodTy, CheckError> {
+) -> Result<MethodTy, Unchecked> {
     let asked = method_type(alloc, asked, classes)?;
-    check_astype(alloc, t, weight, &asked, classes)
+    Ok(check_astype(alloc, t, weight, &asked, classes)?)
 }
 
 /// The type of a node of one part, of this type and weight.
@@ -144,32 +181,20 @@ fn checked_one(
     t: &MethodTy,
     weight: u32,
     adapter: Adapter,
-) -> Result<MethodTy, CheckError> {
+) -> Result<MethodTy, Unchecked> {
     match adapter {
-        Adapter::Bind(pos, v) => check_bind(alloc, t, weight, pos, &value(v), classes),
+        Adapter::Bind(pos, v) => Ok(check_bind(alloc, t, weight, pos, &value(v), classes)?),
         Adapter::Drop(pos, put) => checked_drop(alloc, classes, t, weight, (pos, put)),
         Adapter::Permute(asked, order) => {
             checked_permute(alloc, classes, t, weight, (asked, order))
         }
         Adapter::Spread(array, count) => {
-            check_spread(
-                alloc,
-                t,
-                weight,
-                option_type(array, classes),
-                count,
-                classes,
-            )
+            let array = option_type(array, classes)?;
+            Ok(check_spread(alloc, t, weight, array, count, classes)?)
         }
         Adapter::Gather(array, count) => {
-            check_gather(
-                alloc,
-                t,
-                weight,
-                option_type(array, classes),
-                count,
-                classes,
-            )
+            let array = option_type(array, classes)?;
+            Ok(check_gather(alloc, t, weight, array, count, classes)?)
         }
         Adapter::AsType(asked) => checked_astype(alloc, classes, t, weight, asked),
     }
@@ -182,15 +207,16 @@ fn checked_two(
     (t, part): (&MethodTy, &MethodTy),
     weight: u32,
     joint: Joint,
-) -> Result<MethodTy, CheckError> {
-    match joint {
+) -> Result<MethodTy, Unchecked> {
+    let checked = match joint {
         Joint::Filter(pos) => check_filter(alloc, t, weight, pos, part, weight, classes),
         Joint::FilterReturn => check_filterret(alloc, t, weight, part, weight, classes),
         Joint::Fold(pos) => check_fold(alloc, t, weight, pos, part, weight, classes),
         Joint::Collect(pos) => check_collect(alloc, t, weight, pos, part, weight, classes),
         Joint::Catch(class) => check_catch(alloc, t, weight, class, part, weight, classes),
         Joint::TryFinally => check_tryfinally(alloc, t, weight, part, weight, classes),
-    }
+    };
+    Ok(checked?)
 }
 
 /// The type of a guard whose parts each have this weight.
@@ -201,11 +227,11 @@ fn checked_guard(
     target: &str,
     fallback: &str,
     weight: u32,
-) -> Result<MethodTy, CheckError> {
+) -> Result<MethodTy, Unchecked> {
     let c = method_type(alloc, test, classes)?;
     let t = method_type(alloc, target, classes)?;
     let e = method_type(alloc, fallback, classes)?;
-    check_guard(alloc, &c, weight, &t, weight, &e, weight, classes)
+    Ok(check_guard(alloc, &c, weight, &t, weight, &e, weight, classes)?)
 }
 
 /// The type of a switch whose fallback has this weight, and whose cases have it together.
@@ -215,13 +241,13 @@ fn checked_switch(
     fallback: &str,
     cases: &[&str],
     weight: u32,
-) -> Result<MethodTy, CheckError> {
+) -> Result<MethodTy, Unchecked> {
     let fallback = method_type(alloc, fallback, classes)?;
     let mut types = Seq::new(alloc);
     for case in cases.iter().copied() {
         types.push(method_type(alloc, case, classes)?)?;
     }
-    check_switch(alloc, &fallback, weight, types.as_slice(), weight, classes)
+    Ok(check_switch(alloc, &fallback, weight, types.as_slice(), weight, classes)?)
 }
 
 /// The type of a loop whose parts each have this weight.
@@ -232,11 +258,11 @@ fn checked_counted(
     init: &str,
     body: &str,
     weight: u32,
-) -> Result<MethodTy, CheckError> {
+) -> Result<MethodTy, Unchecked> {
     let n = method_type(alloc, iterations, classes)?;
     let i = method_type(alloc, init, classes)?;
     let b = method_type(alloc, body, classes)?;
-    check_counted(alloc, &n, weight, &i, weight, &b, weight, classes)
+    Ok(check_counted(alloc, &n, weight, &i, weight, &b, weight, classes)?)
 }
 
 /// The type of a node whose parts each have this weight, or its refusal. The cases of a switch have
@@ -246,15 +272,19 @@ pub(crate) fn checked(
     leaves: &Leaves,
     node: Node,
     weight: u32,
-) -> Result<MethodTy, CheckError> {
+) -> Result<MethodTy, Unchecked> {
     let classes = leaves.classes();
     match node {
         Node::Leaf => checked_leaf(alloc, leaves),
         Node::Constant(ty, v) => {
-            check_constant(alloc, option_type(ty, classes), &value(v), classes)
+            let ty = option_type(ty, classes)?;
+            Ok(check_constant(alloc, ty, &value(v), classes)?)
         }
-        Node::Identity(ty) => check_identity(alloc, option_type(ty, classes), classes),
-        Node::Throw(ret, class) => check_throw(alloc, option_type(ret, classes), class, classes),
+        Node::Identity(ty) => Ok(check_identity(alloc, option_type(ty, classes)?, classes)?),
+        Node::Throw(ret, class) => {
+            let ret = option_type(ret, classes)?;
+            Ok(check_throw(alloc, ret, class, classes)?)
+        }
         Node::One(t, adapter) => {
             let t = method_type(alloc, t, classes)?;
             checked_one(alloc, classes, &t, weight, adapter)

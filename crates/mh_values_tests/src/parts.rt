@@ -4,24 +4,23 @@ ghost use Rattle.mh_form.specs.Run.{IsLeaf, IsPart, run_body as run_of, run_boun
 ghost use Rattle.mh_form.specs.Slots.{called};
 ghost use Rattle.mh_values_tests.specs.Host.{host, nested, nested_on, two_links};
 
-use crate::bodies::{gave, naming, one, one_place};
+use crate::bodies::{gave, naming, one, one_place, text};
 use mh_base::{NoMemory, Seq};
 use mh_form::{Bound, Field, FormBody, Name, Operands, Ran, Slot, run};
-use mh_leaves::{Leaves, read_manifest};
+use mh_leaves::{Leaves, ManifestError, read_manifest};
 use mh_values::LeafId;
 use std::alloc::Global;
 use std::sync::Arc;
 use std::test::Fail;
 
 /// The leaves `tick`, which gives the count of leaf calls before it, and `div`.
-fn host(alloc: Global) -> Result<Leaves, NoMemory>
+fn host(alloc: Global) -> Result<Leaves, ManifestError>
     ensures { IfOk result (λ leaves. leaves ≡ host) }
 {
     read_manifest(
         alloc,
         b"class demo/Host java/lang/Object\nstatic demo/Host tick (I)I tick\nstatic demo/Host div (II)I idiv\n",
     )
-    .map_err(|_| NoMemory)
 }
 
 fn two_places(alloc: Global, first: u32, second: u32) -> Result<Operands, NoMemory>
@@ -111,25 +110,24 @@ fn nested(
     run_nested(alloc, leaves, &call, &link, &twice, leaf, arg, n)
 }
 
-/// Whether the second of two calls of `tick` gives this, after `n` calls.
-fn ticks(alloc: Global, leaves: &Leaves, n: u32, wanted: &str) -> Result<bool, NoMemory>
+/// What the second of two calls of `tick` gives after `n` calls, and how many calls there were.
+fn ticks(alloc: Global, leaves: &Leaves, n: u32) -> Result<(Vec<u8>, usize), NoMemory>
     requires { leaves.now ≡ host }
 {
     let places = one_place(alloc, 0)?;
     let ran = nested(alloc, leaves, 0, places, Slot::I(7), n)?;
-    let is_wanted = gave(alloc, &ran.outcome, leaves.classes(), wanted)?;
-    Ok(is_wanted && ran.calls.len() == 2)
+    let gave = gave(alloc, &ran.outcome, leaves.classes())?;
+    Ok((gave, ran.calls.len()))
 }
 
-/// Whether the first of two calls of `div` by zero ends the run with its exception.
-fn throws(alloc: Global, leaves: &Leaves) -> Result<bool, NoMemory>
+/// What the first of two calls of `div` by zero ends the run with, and how many calls there were.
+fn throws(alloc: Global, leaves: &Leaves) -> Result<(Vec<u8>, usize), NoMemory>
     requires { leaves.now ≡ host }
 {
     let places = two_places(alloc, 0, 0)?;
     let ran = nested(alloc, leaves, 1, places, Slot::I(0), 0)?;
-    let wanted = "java/lang/ArithmeticException s:/\\sby\\szero";
-    let is_wanted = gave(alloc, &ran.outcome, leaves.classes(), wanted)?;
-    Ok(is_wanted && ran.calls.len() == 1)
+    let gave = gave(alloc, &ran.outcome, leaves.classes())?;
+    Ok((gave, ran.calls.len()))
 }
 
 /// Counts of calls before a run, and what `tick` gives the second time.
@@ -143,7 +141,8 @@ static TICKS: [(u32, &str); 3] = [
 fn parts_are_told_of_the_calls_before_them(rt: HostRuntime) -> Result<(), Fail> {
     let leaves = host(rt.alloc())?;
     for (n, wanted) in TICKS.iter().copied() {
-        assert!(rt; ticks(rt.alloc(), &leaves, n, wanted)?, "after {n} calls");
+        let (gave, calls) = ticks(rt.alloc(), &leaves, n)?;
+        assert_eq!(rt; (text(&gave), calls), (wanted, 2), "after {n} calls");
     }
     Ok(())
 }
@@ -151,6 +150,8 @@ fn parts_are_told_of_the_calls_before_them(rt: HostRuntime) -> Result<(), Fail> 
 #[test]
 fn an_exception_ends_the_parts(rt: HostRuntime) -> Result<(), Fail> {
     let leaves = host(rt.alloc())?;
-    assert!(rt; throws(rt.alloc(), &leaves)?);
+    let (gave, calls) = throws(rt.alloc(), &leaves)?;
+    let wanted = "java/lang/ArithmeticException s:/\\sby\\szero";
+    assert_eq!(rt; (text(&gave), calls), (wanted, 1));
     Ok(())
 }

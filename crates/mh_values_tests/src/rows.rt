@@ -1,13 +1,14 @@
+use crate::bodies::text;
 use crate::nodes::Adapter::{AsType, Bind, Drop, Gather, Permute, Spread};
 use crate::nodes::Given::{Int, Long, Null};
 use crate::nodes::Joint::{Catch, Collect, Filter, FilterReturn, Fold, TryFinally};
 use crate::nodes::Node::{Constant, Counted, Guard, Identity, Leaf, One, Switch, Throw, Two};
-use crate::nodes::{Node, checked, method_type};
+use crate::nodes::{Node, Unchecked, checked, method_type};
 use Want::{Illegal, Refused, TooHeavy, Type};
 use mh_base::NoMemory;
-use mh_leaves::{Leaves, read_manifest};
-use mh_tree::CheckError;
-use mh_values::{ClassId, Classes, Exc, MethodTy, is_same_method_type};
+use mh_leaves::{Leaves, ManifestError, read_manifest};
+use mh_texts::{show_exc, show_type};
+use mh_values::{ClassId, Classes, DescriptorError, Exc, MethodTy, is_same_method_type};
 use std::alloc::Global;
 use std::test::Fail;
 
@@ -33,12 +34,11 @@ enum Want {
 }
 
 /// The built-in classes, and one leaf.
-fn host(alloc: Global) -> Result<Leaves, NoMemory> {
+fn host(alloc: Global) -> Result<Leaves, ManifestError> {
     read_manifest(
         alloc,
         b"class demo/Host java/lang/Object\nstatic demo/Host add (II)I iadd\n",
     )
-    .map_err(|_| NoMemory)
 }
 
 /// Whether an exception is of the class, with the message.
@@ -57,7 +57,12 @@ fn is_refusal(exc: &Exc, want: Want) -> bool {
 }
 
 /// Whether it is the type that is wanted.
-fn is_type(alloc: Global, ty: &MethodTy, want: Want, classes: &Classes) -> Result<bool, NoMemory> {
+fn is_type(
+    alloc: Global,
+    ty: &MethodTy,
+    want: Want,
+    classes: &Classes,
+) -> Result<bool, DescriptorError> {
     let Want::Type(text) = want else {
         return Ok(false);
     };
@@ -390,25 +395,50 @@ static ENDINGS: [Row; 36] = [
     (Counted("()I", "(I)I", "(II)I"), 1, Illegal("counted")),
 ];
 
-/// Whether a check of a node answers what is wanted.
-fn is_told(alloc: Global, leaves: &Leaves, (node, weight, want): Row) -> Result<bool, NoMemory> {
-    match checked(alloc, leaves, node, weight) {
-        Ok(ty) => is_type(alloc, &ty, want, leaves.classes()),
-        Err(CheckError::Refused(exc)) => Ok(is_refusal(&exc, want)),
-        Err(CheckError::NoMemory) => Err(NoMemory),
+/// A node for which a check answers something else than is wanted: the node, the weight of each of
+/// its parts, and the answer, which is a type as a descriptor or an exception.
+#[derive(Drop)]
+struct Wrong {
+    node: Node,
+    weight: u32,
+    answer: Vec<u8>,
+}
+
+impl Wrong {
+    fn told(self) -> Fail {
+        let (node, weight) = (self.node, self.weight);
+        Fail::new(format_args!("{node:?}, weight {weight}: {}", text(&self.answer)))
     }
 }
 
-/// The first of these nodes for which a check answers something else.
-fn first_wrong(
+/// What a check of a node answers, as a text, unless it is what is wanted.
+fn other_answer(
     alloc: Global,
     leaves: &Leaves,
-    rows: &[Row],
-) -> Result<Option<(Node, u32)>, NoMemory> {
+    (node, weight, want): Row,
+) -> Result<Option<Vec<u8>>, Unchecked> {
+    let classes = leaves.classes();
+    let (is_wanted, answer) = match checked(alloc, leaves, node, weight) {
+        Ok(ty) => (
+            is_type(alloc, &ty, want, classes)?,
+            show_type(alloc, &ty, classes)?,
+        ),
+        Err(Unchecked::Refused(exc)) => (is_refusal(&exc, want), show_exc(alloc, &exc, classes)?),
+        Err(unchecked) => return Err(unchecked),
+    };
+    Ok(if is_wanted { None } else { Some(answer) })
+}
+
+/// The first of these nodes for which a check answers something else than is wanted.
+fn first_wrong(alloc: Global, leaves: &Leaves, rows: &[Row]) -> Result<Option<Wrong>, Unchecked> {
     for row in rows.iter().copied() {
-        if !is_told(alloc, leaves, row)? {
+        if let Some(answer) = other_answer(alloc, leaves, row)? {
             let (node, weight, _) = row;
-            return Ok(Some((node, weight)));
+            return Ok(Some(Wrong {
+                node,
+                weight,
+                answer,
+            }));
         }
     }
     Ok(None)
@@ -417,31 +447,35 @@ fn first_wrong(
 #[test]
 fn nodes_without_parts(rt: HostRuntime) -> Result<(), Fail> {
     let leaves = host(rt.alloc())?;
-    let wrong = first_wrong(rt.alloc(), &leaves, &NO_PART)?;
-    assert!(rt; wrong.is_none(), "{wrong:?}");
+    if let Some(wrong) = first_wrong(rt.alloc(), &leaves, &NO_PART)? {
+        return Err(wrong.told());
+    }
     Ok(())
 }
 
 #[test]
 fn nodes_of_one_part(rt: HostRuntime) -> Result<(), Fail> {
     let leaves = host(rt.alloc())?;
-    let wrong = first_wrong(rt.alloc(), &leaves, &ONE_PART)?;
-    assert!(rt; wrong.is_none(), "{wrong:?}");
+    if let Some(wrong) = first_wrong(rt.alloc(), &leaves, &ONE_PART)? {
+        return Err(wrong.told());
+    }
     Ok(())
 }
 
 #[test]
 fn nodes_of_more_parts(rt: HostRuntime) -> Result<(), Fail> {
     let leaves = host(rt.alloc())?;
-    let wrong = first_wrong(rt.alloc(), &leaves, &MORE_PARTS)?;
-    assert!(rt; wrong.is_none(), "{wrong:?}");
+    if let Some(wrong) = first_wrong(rt.alloc(), &leaves, &MORE_PARTS)? {
+        return Err(wrong.told());
+    }
     Ok(())
 }
 
 #[test]
 fn cleanups_switches_and_loops(rt: HostRuntime) -> Result<(), Fail> {
     let leaves = host(rt.alloc())?;
-    let wrong = first_wrong(rt.alloc(), &leaves, &ENDINGS)?;
-    assert!(rt; wrong.is_none(), "{wrong:?}");
+    if let Some(wrong) = first_wrong(rt.alloc(), &leaves, &ENDINGS)? {
+        return Err(wrong.told());
+    }
     Ok(())
 }

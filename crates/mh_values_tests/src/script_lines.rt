@@ -1,5 +1,4 @@
-use mh_base::NoMemory;
-use mh_script::{End, Operation, Script, ScriptId, Step, read_scripts};
+use mh_script::{End, Operation, Script, ScriptError, ScriptId, Step, read_scripts};
 use std::alloc::Global;
 use std::test::Fail;
 
@@ -65,29 +64,38 @@ static LINES: [(&str, &str); 23] = [
     ("failmod 2 1", "failmod"),
 ];
 
-/// Whether the first line of a script is read to this word, and its last to `return` or `raise`.
-fn is_read(script: &Script, word: &str, returns: bool) -> bool {
-    match script.steps.as_slice() {
-        [step] => step_word(step) == word && matches!(script.end, End::Return(_)) == returns,
-        _ => false,
+/// The words of a script's one step, if it has one, and of its end.
+fn words_of(script: &Script) -> (Option<&'static str>, &'static str) {
+    let step = match script.steps.as_slice() {
+        [step] => Some(step_word(step)),
+        _ => None,
+    };
+    match script.end {
+        End::Return(_) => (step, "return"),
+        _ => (step, "raise"),
     }
 }
 
-/// Whether a line before this last one is read to its word.
-fn says(alloc: Global, line: &str, word: &str, last: &str) -> Result<bool, NoMemory> {
+/// What a line before this last one is read to, and the last one.
+fn read(
+    alloc: Global,
+    line: &str,
+    last: &str,
+) -> Result<(Option<&'static str>, &'static str), ScriptError> {
     let file = format!(in alloc; "script a f ()V\n{line}\n{last}\nend\n")?;
-    let scripts = read_scripts(alloc, file.as_bytes()).map_err(|_| NoMemory)?;
+    let scripts = read_scripts(alloc, file.as_bytes())?;
     if scripts.len() != 1 {
-        return Ok(false);
+        return Ok((None, "no script alone"));
     }
-    Ok(is_read(scripts.get(ScriptId(0)), word, last == "return a0"))
+    Ok(words_of(scripts.get(ScriptId(0))))
 }
 
 #[test]
 fn each_line_is_read_to_its_operation(rt: HostRuntime) -> Result<(), Fail> {
     for (line, word) in LINES.iter().copied() {
-        assert!(rt; says(rt.alloc(), line, word, "return a0")?, "{line}");
-        assert!(rt; says(rt.alloc(), line, word, "raise a s:b")?, "{line}");
+        let (returned, raised) = ((Some(word), "return"), (Some(word), "raise"));
+        assert_eq!(rt; read(rt.alloc(), line, "return a0")?, returned, "{line}");
+        assert_eq!(rt; read(rt.alloc(), line, "raise a s:b")?, raised, "{line}");
     }
     Ok(())
 }

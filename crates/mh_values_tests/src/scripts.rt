@@ -1,5 +1,4 @@
-use mh_base::NoMemory;
-use mh_script::{ScriptId, Scripts, read_scripts};
+use mh_script::{ScriptId, read_scripts};
 use std::alloc::{AllocError, Global};
 use std::test::Fail;
 
@@ -28,18 +27,14 @@ fn scripts_of(alloc: Global, headers: &[&str]) -> Result<String, AllocError> {
     Ok(file)
 }
 
-/// Whether the texts of a script find what is wanted.
-fn is_found(scripts: &Scripts, (owner, name, descriptor, want): Row) -> bool {
-    scripts.find(owner.as_bytes(), name.as_bytes(), descriptor.as_bytes()) == want
-}
-
 #[test]
 fn scripts_are_found_by_their_headers(rt: HostRuntime) -> Result<(), Fail> {
     let file = scripts_of(rt.alloc(), &HEADERS)?;
-    let scripts = read_scripts(rt.alloc(), file.as_bytes()).map_err(|_| NoMemory)?;
+    let scripts = read_scripts(rt.alloc(), file.as_bytes())?;
     for row in FOUND.iter().copied() {
-        let (owner, name, descriptor, _) = row;
-        assert!(rt; is_found(&scripts, row), "{owner}.{name}:{descriptor}");
+        let (owner, name, descriptor, want) = row;
+        let found = scripts.find(owner.as_bytes(), name.as_bytes(), descriptor.as_bytes());
+        assert_eq!(rt; found, want, "{owner}.{name}:{descriptor}");
     }
     Ok(())
 }

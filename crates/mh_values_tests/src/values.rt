@@ -1,5 +1,6 @@
 ghost use Rattle.std.specs.Prelude.{◌<◌, length, OnOk};
 
+use crate::bodies::text;
 use mh_base::NoMemory;
 use mh_values::{
     ClassId, Classes, DeclareError, DescriptorError, Ty, read_descriptor, read_type, read_types,
@@ -86,7 +87,7 @@ fn first_wrong<'t>(classes: &Classes, rows: &[(&'t str, &'t str)]) -> Option<&'t
 fn built_in_classes_stand_below_their_superclasses(rt: HostRuntime) -> Result<(), Fail> {
     let classes = Classes::builtin(rt.alloc())?;
     assert_eq!(rt; first_wrong(&classes, &PARENTS), None);
-    assert!(rt; classes.len() == 28, "{} classes", classes.len());
+    assert_eq!(rt; classes.len(), 28);
     Ok(())
 }
 
@@ -137,7 +138,7 @@ static CONSTANTS: [(ClassId, &str); 21] = [
 fn constants_name_their_classes(rt: HostRuntime) -> Result<(), Fail> {
     let classes = Classes::builtin(rt.alloc())?;
     for (class, name) in CONSTANTS.iter().copied() {
-        assert!(rt; classes.name(class) == name.as_bytes(), "{name}");
+        assert_eq!(rt; text(classes.name(class)), name);
     }
     Ok(())
 }
@@ -156,11 +157,12 @@ fn declare_many(classes: &mut Classes, count: u16) -> Result<(), DeclareError>
 #[test]
 fn at_most_1024_classes_are_declared(rt: HostRuntime) -> Result<(), Fail> {
     let mut classes = Classes::builtin(rt.alloc())?;
-    assert!(rt; declare_many(&mut classes, 1024).is_ok());
+    declare_many(&mut classes, 1024)?;
     let more = classes.declare(b"one more", ClassId::OBJECT);
     let again = classes.declare(&[3, 255], ClassId::OBJECT);
-    assert!(rt; more == Err(DeclareError::TooMany) && again == Err(DeclareError::Twice));
-    assert!(rt; classes.len() == 1052, "{} classes", classes.len());
+    assert_eq!(rt; more, Err(DeclareError::TooMany));
+    assert_eq!(rt; again, Err(DeclareError::Twice));
+    assert_eq!(rt; classes.len(), 1052);
     Ok(())
 }
 
@@ -192,21 +194,16 @@ static REFUSALS: [(&str, Option<DescriptorError>); 9] = [
 #[test]
 fn descriptors_are_refused_at_their_places(rt: HostRuntime) -> Result<(), Fail> {
     for (text, want) in REFUSALS.iter().copied() {
-        assert!(rt; refusal(rt.alloc(), text)? == want, "{text}");
+        assert_eq!(rt; refusal(rt.alloc(), text)?, want, "{text}");
     }
     Ok(())
 }
 
 const OBJECT: Ty = Ty::Class(ClassId::OBJECT);
 
-/// Whether a text is read as this many types, or refused so.
-fn reads_types(
-    alloc: Global,
-    text: &[u8],
-    classes: &Classes,
-    want: Result<usize, DescriptorError>,
-) -> bool {
-    read_types(alloc, text, classes).map(|types| types.len()) == want
+/// As how many types a text is read, or why it is refused.
+fn count_types(alloc: Global, text: &[u8], classes: &Classes) -> Result<usize, DescriptorError> {
+    read_types(alloc, text, classes).map(|types| types.len())
 }
 
 #[test]
@@ -214,9 +211,9 @@ fn types_are_read_one_by_one(rt: HostRuntime) -> Result<(), Fail> {
     let classes = Classes::builtin(rt.alloc())?;
     let void = Err(DescriptorError::Bad { at: 0 });
     let unknown = Err(DescriptorError::NoClass { at: 3, len: 1 });
-    assert!(rt; read_type(b"Ljava/lang/Object;", &classes) == Ok(OBJECT));
-    assert!(rt; read_type(b"V", &classes) == void);
-    assert!(rt; reads_types(rt.alloc(), b"I[ZJ", &classes, Ok(3)));
-    assert!(rt; reads_types(rt.alloc(), b"J[Lx;", &classes, unknown));
+    assert_eq!(rt; read_type(b"Ljava/lang/Object;", &classes), Ok(OBJECT));
+    assert_eq!(rt; read_type(b"V", &classes), void);
+    assert_eq!(rt; count_types(rt.alloc(), b"I[ZJ", &classes), Ok(3));
+    assert_eq!(rt; count_types(rt.alloc(), b"J[Lx;", &classes), unknown);
     Ok(())
 }
