@@ -22,7 +22,7 @@ named v = option_map (λ s. s.table_id) v.like
 
 -- the view with these claims
 abbrev pub claiming : Claimer → List ℕ → Claimer
-claiming v claims = record { like = v.like; claims = claims }
+claiming v claims = record v { claims = claims }
 
 -- the slot has the bucket's keeper
 abbrev pub HasKeeper : TableId → ℕ → KeeperSlot → Type 0

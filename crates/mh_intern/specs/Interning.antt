@@ -11,31 +11,11 @@ use Rattle.mh_intern.specs.Held.{on_type, IsFull}
 
 -- one hold more and one room less, and the type was asked for
 abbrev pub granted : Entry → Holding → Holding
-granted e v = record {
-  holds = e ∷ v.holds;
-  room = v.room - 1;
-  asked = e.ty ∷ v.asked;
-  full = v.full;
-  keeps = v.keeps;
-  entries = v.entries;
-  zeros = v.zeros;
-  busy = v.busy;
-  wanted = v.wanted;
-}
+granted e v = record v { holds = e ∷ v.holds; room = v.room - 1; asked = e.ty ∷ v.asked }
 
 -- the type was asked for, and a full bucket was found
 abbrev pub refused : FullBucket → MethodTy → Holding → Holding
-refused f t v = record {
-  holds = v.holds;
-  room = v.room;
-  asked = t ∷ v.asked;
-  full = f ∷ v.full;
-  keeps = v.keeps;
-  entries = v.entries;
-  zeros = v.zeros;
-  busy = v.busy;
-  wanted = v.wanted;
-}
+refused f t v = record v { asked = t ∷ v.asked; full = f ∷ v.full }
 
 -- the bucket is full, and has no entry of the type
 pub record IsFullFor (t : MethodTy) (f : FullBucket) : Type 0 where

@@ -8,41 +8,22 @@ use Rattle.mh_intern.specs.Buckets.{buckets}
 use Rattle.mh_seats.specs.Room.{limit}
 use Rattle.mh_intern.specs.Lists.{removed}
 
+-- the view of a seat that has nothing: a join leaves it of the other seat
+abbrev pub nothing : Holding
+nothing = record { holds = []; room = 0; asked = []; full = []; keeps = []; entries = []; zeros = []; busy = []; wanted = [] }
+
 -- the view of a caller
 abbrev pub caller : List Entry → ℕ → List MethodTy → List FullBucket → Holding
-caller holds room asked full = record {
-  holds = holds;
-  room = room;
-  asked = asked;
-  full = full;
-  keeps = [];
-  entries = [];
-  zeros = [];
-  busy = [];
-  wanted = [];
-}
+caller holds room asked full = record nothing { holds = holds; room = room; asked = asked; full = full }
 
 -- the view of a keeper that reads for a request
 abbrev pub keeper : List ℕ → List Entry → List ℕ → List ℕ → List MethodTy → ℕ → Holding
-keeper keeps entries zeros busy wanted room = record {
-  holds = [];
-  room = room;
-  asked = [];
-  full = [];
-  keeps = keeps;
-  entries = entries;
-  zeros = zeros;
-  busy = busy;
-  wanted = wanted;
-}
+keeper keeps entries zeros busy wanted room =
+    record nothing { room = room; keeps = keeps; entries = entries; zeros = zeros; busy = busy; wanted = wanted }
 
 -- the view of a keeper of one bucket that has no request
 abbrev pub at_rest : ℕ → List Entry → Holding
 at_rest bucket entries = keeper (bucket ∷ []) entries [] [] [] 0
-
--- the view that a join leaves of the other seat
-abbrev pub nothing : Holding
-nothing = caller [] 0 [] []
 
 -- two views together
 abbrev pub joined_views : Holding → Holding → Holding
@@ -60,45 +41,15 @@ joined_views v w = record {
 
 -- a caller has one hold more, and room for one less
 abbrev pub held_more : Entry → Holding → Holding
-held_more e v = record {
-  holds = e ∷ v.holds;
-  room = v.room - 1;
-  asked = v.asked;
-  full = v.full;
-  keeps = v.keeps;
-  entries = v.entries;
-  zeros = v.zeros;
-  busy = v.busy;
-  wanted = v.wanted;
-}
+held_more e v = record v { holds = e ∷ v.holds; room = v.room - 1 }
 
 -- a caller has one hold less, and room for one more
 abbrev pub held_less : Entry → Holding → Holding
-held_less e v = record {
-  holds = removed e v.holds;
-  room = v.room + 1;
-  asked = v.asked;
-  full = v.full;
-  keeps = v.keeps;
-  entries = v.entries;
-  zeros = v.zeros;
-  busy = v.busy;
-  wanted = v.wanted;
-}
+held_less e v = record v { holds = removed e v.holds; room = v.room + 1 }
 
 -- a keeper with these notes
 abbrev pub with_notes : List ℕ → List ℕ → Holding → Holding
-with_notes zeros busy v = record {
-  holds = v.holds;
-  room = v.room;
-  asked = v.asked;
-  full = v.full;
-  keeps = v.keeps;
-  entries = v.entries;
-  zeros = zeros;
-  busy = busy;
-  wanted = v.wanted;
-}
+with_notes zeros busy v = record v { zeros = zeros; busy = busy }
 
 -- a keeper has read a slot, found n, and noted it as zero or as not zero
 abbrev pub after_read : ℕ → ℕ → Holding → Holding
@@ -106,45 +57,15 @@ after_read k n v = with_notes (cond (n == 0) (k ∷ v.zeros) v.zeros) (cond (n =
 
 -- a keeper has raised a word for a request, and has this list now
 abbrev pub after_raise : Entry → List Entry → Holding → Holding
-after_raise e entries v = record {
-  holds = e ∷ v.holds;
-  room = v.room - 1;
-  asked = v.asked;
-  full = v.full;
-  keeps = v.keeps;
-  entries = entries;
-  zeros = [];
-  busy = [];
-  wanted = [];
-}
+after_raise e entries v = record v { holds = e ∷ v.holds; room = v.room - 1; entries = entries; zeros = []; busy = []; wanted = [] }
 
 -- room is cut off for a new caller
 abbrev pub less_room : ℕ → Holding → Holding
-less_room room v = record {
-  holds = v.holds;
-  room = v.room - room;
-  asked = v.asked;
-  full = v.full;
-  keeps = v.keeps;
-  entries = v.entries;
-  zeros = v.zeros;
-  busy = v.busy;
-  wanted = v.wanted;
-}
+less_room room v = record v { room = v.room - room }
 
 -- a caller has asked for a type, and sent one room along
 abbrev pub after_request : MethodTy → Holding → Holding
-after_request t v = record {
-  holds = v.holds;
-  room = v.room - 1;
-  asked = t ∷ v.asked;
-  full = v.full;
-  keeps = v.keeps;
-  entries = v.entries;
-  zeros = v.zeros;
-  busy = v.busy;
-  wanted = v.wanted;
-}
+after_request t v = record v { room = v.room - 1; asked = t ∷ v.asked }
 
 -- a request for a type, with its one room
 abbrev pub request : MethodTy → Holding
@@ -152,17 +73,7 @@ request t = keeper [] [] [] [] (t ∷ []) 1
 
 -- a keeper has replied, and is at rest
 abbrev pub after_reply : Holding → Holding
-after_reply v = record {
-  holds = [];
-  room = 0;
-  asked = v.asked;
-  full = v.full;
-  keeps = v.keeps;
-  entries = v.entries;
-  zeros = [];
-  busy = [];
-  wanted = [];
-}
+after_reply v = record v { holds = []; room = 0; zeros = []; busy = []; wanted = [] }
 
 -- its reply: the hold
 abbrev pub reply : Holding → Holding
@@ -183,31 +94,11 @@ up_from a (suc n) = a ∷ up_from (suc a) n
 
 -- at the start one seat has all the room and keeps all buckets
 abbrev pub first : Holding
-first = record {
-  holds = [];
-  room = limit;
-  asked = [];
-  full = [];
-  keeps = up_from 0 buckets;
-  entries = [];
-  zeros = [];
-  busy = [];
-  wanted = [];
-}
+first = record nothing { room = limit; keeps = up_from 0 buckets }
 
 -- a seat without the first of its buckets
 abbrev pub without_first : Holding → Holding
-without_first v = record {
-  holds = v.holds;
-  room = v.room;
-  asked = v.asked;
-  full = v.full;
-  keeps = drop 1 v.keeps;
-  entries = v.entries;
-  zeros = v.zeros;
-  busy = v.busy;
-  wanted = v.wanted;
-}
+without_first v = record v { keeps = drop 1 v.keeps }
 
 -- a keeper of the first of its buckets
 abbrev pub first_keeper : Holding → Holding
@@ -215,14 +106,4 @@ first_keeper v = at_rest (slice_index v.keeps 0) []
 
 -- the first seat, once the buckets below b have keepers of their own
 abbrev pub dealt : ℕ → Holding
-dealt b = record {
-  holds = [];
-  room = limit;
-  asked = [];
-  full = [];
-  keeps = up_from b (buckets - b);
-  entries = [];
-  zeros = [];
-  busy = [];
-  wanted = [];
-}
+dealt b = record nothing { room = limit; keeps = up_from b (buckets - b) }

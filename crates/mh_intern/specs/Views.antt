@@ -42,23 +42,23 @@ new_seat table room = record { table = table; holds = []; room = room; asked = [
 
 -- the seat with one hold more, which takes one room
 abbrev pub with_hold : Entry → SeatView → SeatView
-with_hold e s = record { table = s.table; holds = e ∷ s.holds; room = s.room - 1; asked = s.asked; full = s.full }
+with_hold e s = record s { holds = e ∷ s.holds; room = s.room - 1 }
 
 -- the seat with one hold less, which gives its room back
 abbrev pub without_hold : Entry → SeatView → SeatView
-without_hold e s = record { table = s.table; holds = removed e s.holds; room = s.room + 1; asked = s.asked; full = s.full }
+without_hold e s = record s { holds = removed e s.holds; room = s.room + 1 }
 
 -- the seat with this much less room
 abbrev pub with_less_room : ℕ → SeatView → SeatView
-with_less_room room s = record { table = s.table; holds = s.holds; room = s.room - room; asked = s.asked; full = s.full }
+with_less_room room s = record s { room = s.room - room }
 
 -- the seat, after it has asked for a type
 abbrev pub with_asked : MethodTy → SeatView → SeatView
-with_asked t s = record { table = s.table; holds = s.holds; room = s.room; asked = t ∷ s.asked; full = s.full }
+with_asked t s = record s { asked = t ∷ s.asked }
 
 -- the seat, after it has found a full bucket
 abbrev pub with_full : FullBucket → SeatView → SeatView
-with_full f s = record { table = s.table; holds = s.holds; room = s.room; asked = s.asked; full = f ∷ s.full }
+with_full f s = record s { full = f ∷ s.full }
 
 -- one seat with all that two had
 abbrev pub joined_seats : SeatView → SeatView → SeatView
