@@ -1,3 +1,4 @@
+-- For proofs: no clause of a public function reaches these definitions.
 -- What adapters add to the handle that they adapt.
 use Rattle.std.specs.Prelude.{◌≡◌, ℕ, ◌+◌, ◌≤◌, [], ◌∷◌, List, length, map, slice_get, Result, Ok, Err, IfOk}
 use Rattle.std.specs.Option.{option_map_or}

@@ -1,3 +1,4 @@
+-- For proofs: no clause of a public function reaches these definitions.
 -- Answers of the calls that make the node of a line.
 use Rattle.std.specs.Prelude.{◌≡◌, ℕ, ◌%◌, ◌==◌, not, List, codes, Result, Ok, Err}
 use Rattle.mh_values.specs.declared.class.Class.{Class}

@@ -1,3 +1,4 @@
+-- For proofs: no clause of a public function reaches these definitions.
 -- How the operation of a line changes the work.
 use Rattle.std.specs.Prelude.{◌≡◌, List, [], ◌∷◌, Result, Ok}
 use Rattle.mh_tree.specs.Tree.{Tree}

@@ -1,3 +1,4 @@
+-- For proofs: no clause of a public function reaches these definitions.
 -- What the rest of a script requires, and how it changes the registers and the work.
 use Rattle.std.specs.Prelude.{◌≡◌, ℕ, ◌+◌, ◌*◌, ◌^◌, ◌<◌, List, ◌++◌, length, map, All, Result, Ok, Err}
 use Rattle.mh_values.specs.declared.types.MethodTy.{MethodTy}

@@ -1,3 +1,4 @@
+-- For proofs: no clause of a public function reaches these definitions.
 -- Depths as numbers; 0 stands for none.
 use Rattle.std.specs.Prelude.{◌≡◌, ℕ, zero, suc, List, map, length, Option, Some, None, option_map, slice_index, unwrap_or}
 use Rattle.mh_link.specs.Named.{Constants}

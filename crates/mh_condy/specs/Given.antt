@@ -1,3 +1,4 @@
+-- For proofs: no clause of a public function reaches these definitions.
 -- The static arguments of an attempt, given what its pass has learnt of constants.
 use Rattle.std.specs.Prelude.{◌≡◌, ℕ, ◌<◌, ◌≤◌, List, [], ◌∷◌, length, slice_get, All, Option, None, Some, Ok, Err}
 use Rattle.mh_values.specs.declared.value.Exc.{Exc}

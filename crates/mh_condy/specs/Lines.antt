@@ -1,3 +1,4 @@
+-- For proofs: no clause of a public function reaches these definitions.
 -- The lines of a constant's script, which make no method handle.
 use Rattle.std.specs.Prelude.{ℕ, ◌%◌, ◌==◌, Bool, false, not, List, [], ◌∷◌, codes, Ok, Err, ok_or, slice_get}
 use Rattle.std.specs.List.{list_any}

@@ -1,3 +1,4 @@
+-- For proofs: no clause of a public function reaches these definitions.
 -- What resolution answers.
 use Rattle.std.specs.Prelude.{◌≡◌, Result, Ok, Err}
 use Rattle.mh_base.specs.declared.memory.NoMemory.{NoMemory as OutOfMemory}

@@ -1,3 +1,4 @@
+-- For proofs: no clause of a public function reaches these definitions.
 -- What a root makes of several handles.
 use Rattle.std.specs.Prelude.{◌≡◌, ◌≤◌, ℕ, ◌+◌, IsTrue, List, length}
 use Rattle.mh_values.specs.declared.types.MethodTy.{MethodTy}

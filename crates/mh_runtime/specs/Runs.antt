@@ -1,3 +1,4 @@
+-- For proofs: no clause of a public function reaches these definitions.
 -- What the calls of a plan leave whose threads' passes are split off one pass: the first one, or the one that workers have left.
 use Rattle.std.specs.Prelude.{◌≡◌, ◌⊎◌, ℕ, zero, suc, List, None, Some}
 use Rattle.mh_intern.specs.Views.{SeatView}
