@@ -1,5 +1,5 @@
 -- The number of keys of the form that an exact or a generic call runs, and how a generic call changes a thread's work.
-use Rattle.std.specs.Prelude.{◌≡◌, ℕ, ◌<◌, ◌⊎◌, List, [], ◌∷◌, ◌++◌, length, if◌then◌else◌, Option, Some, None, Result, Ok, Err}
+use Rattle.std.specs.Prelude.{◌≡◌, ℕ, ◌⊎◌, List, [], ◌∷◌, ◌++◌, length, if◌then◌else◌, Option, Some, None, Result, Ok, Err}
 use Rattle.mh_values.specs.declared.class.Class.{Class}
 use Rattle.mh_values.specs.declared.types.MethodTy.{MethodTy}
 use Rattle.mh_values.specs.declared.value.Exc.{Exc}
@@ -13,8 +13,8 @@ use Rattle.mh_handle.specs.declared.answer.Answer.{Answer}
 use Rattle.mh_handle.specs.declared.error.EditError.{EditError}
 use Rattle.mh_handle.specs.declared.error.EditError.TheVariants.{NoMemory, FormsFull}
 use Rattle.mh_handle.specs.declared.work.Work.{Work}
-use Rattle.mh_handle.specs.Form.{FormView, most_forms}
-use Rattle.mh_handle.specs.Passes.{AsksFor, NotAsked, Draws, DrawsAtMostOne, IsFormOf, IsUnlearnt, PutsAtMost, PutsAtMostOne}
+use Rattle.mh_handle.specs.Form.{FormView}
+use Rattle.mh_handle.specs.Passes.{AsksFor, DrawsAtMostOne, IsFormOf, LacksNumber, PutsAtMost, PutsAtMostOne}
 use Rattle.mh_handle.specs.Recipe.{convert_keys, recipe}
 
 -- a number that depends on a type: 0 if it is refused
@@ -57,9 +57,7 @@ AsksBy recipe (k ∷ keys) old new (Ok a) =
 AsksBy recipe (k ∷ keys) old new (Err NoMemory) =
     ((new.pass.now.asked ≡ old.pass.now.asked) ⊎ AsksForRecipe (recipe ++ k ∷ keys) old new)
     × DrawsAtMostOne (recipe ++ k ∷ keys) old.pass.now new.pass.now × PutsAtMostOne (recipe ++ k ∷ keys) old.pass.now new.pass.now
-AsksBy recipe (k ∷ keys) old new (Err (FormsFull drawn)) =
-    NotAsked (recipe ++ k ∷ keys) old.pass.now new.pass.now × Draws drawn old.pass.now.seat new.pass.now.seat × (most_forms < drawn)
-    × IsUnlearnt (recipe ++ k ∷ keys) new.pass.now × (new.pass.now.made ≡ old.pass.now.made)
+AsksBy recipe (k ∷ keys) old new (Err (FormsFull drawn)) = LacksNumber (recipe ++ k ∷ keys) drawn old.pass.now new.pass.now
 
 -- the exception that refuses the conversion to a type, if it is refused
 abbrev pub IsRefusal : TypeOrRefusal → MethodTy → Option Exc → Type 0

@@ -11,7 +11,7 @@ use Rattle.mh_setonce.specs.declared.put.Put.TheVariants.{Mine, Theirs}
 use Rattle.mh_handle.specs.declared.error.EditError.{EditError}
 use Rattle.mh_handle.specs.declared.error.EditError.TheVariants.{NoMemory, FormsFull}
 use Rattle.mh_handle.specs.Chains.{learnt_by}
-use Rattle.mh_handle.specs.Form.{FormView}
+use Rattle.mh_handle.specs.Form.{FormView, most_forms}
 use Rattle.mh_handle.specs.Index.{recipe_of}
 use Rattle.mh_handle.specs.SameRecipes.{same_recipe}
 pub use Rattle.mh_handle.specs.Seats.{Draws, KnowsAll, SeatView, TableView, seat_at}
@@ -117,15 +117,24 @@ AsksFor form old new =
 abbrev pub NotAsked : List Key → PassView → PassView → Type 0
 NotAsked recipe old new = Lacks recipe_of old.asked recipe × (new.asked ≡ old.asked)
 
--- How an edit, which asks for the form of a recipe, answers and changes the pass. The answer is the form that the pass has learnt by then.
--- If the pass has put it into the table, it has the number drawn now. If no number is left, the pass has learnt none.
+-- How an edit that answers this form changes the pass. The form has the recipe, and the pass has asked for it and has learnt it by then.
+-- At most one number was drawn. If the pass has put the form into the table, the form has that number.
+abbrev pub GivesForm : List Key → FormView → PassView → PassView → Type 0
+GivesForm recipe form old new =
+    (form.recipe ≡ recipe) × AsksFor form old new × DrawsAtMostOne recipe old new × IsFormOf recipe new form × PutsAtMost form old new
+
+-- How an edit that finds no number for its form changes the pass. The number that it drew is greater than that of any form.
+-- The pass has neither asked for the form nor learnt one of the recipe, and has put none into the table.
+abbrev pub LacksNumber : List Key → ℕ → PassView → PassView → Type 0
+LacksNumber recipe drawn old new =
+    NotAsked recipe old new × Draws drawn old.seat new.seat × (most_forms < drawn) × IsUnlearnt recipe new × (new.made ≡ old.made)
+
+-- How an edit, which asks for the form of a recipe, answers and changes the pass. It answers the form, or memory ran out, or no number was left.
 -- The clauses on numbers are there to count: by them a run draws at most one number for each recipe that a thread asks for.
 abbrev pub Edits : List Key → PassView → PassView → Result (Bor FormView) EditError → Type 0
-Edits recipe old new (Ok form) =
-    (form.now.recipe ≡ recipe) × AsksFor form.now old new × DrawsAtMostOne recipe old new × IsFormOf recipe new form.now × PutsAtMost form.now old new
+Edits recipe old new (Ok form) = GivesForm recipe form.now old new
 Edits recipe old new (Err NoMemory) = NotAsked recipe old new × DrawsAtMostOne recipe old new × PutsAtMostOne recipe old new
-Edits recipe old new (Err (FormsFull drawn)) =
-    NotAsked recipe old new × Draws drawn old.seat new.seat × (16384 < drawn) × IsUnlearnt recipe new × (new.made ≡ old.made)
+Edits recipe old new (Err (FormsFull drawn)) = LacksNumber recipe drawn old new
 
 -- How a look for a form that was not asked for before answers. If the table shows the form, or memory runs out, the answer is the edit's.
 -- Otherwise the pass has not learnt the form.
@@ -141,4 +150,4 @@ MakesForm recipe old new (Ok form) =
 MakesForm recipe old new (Err NoMemory) =
     (new.asked ≡ old.asked) × ((new.seat ≡ old.seat) ⊎ ((number : ℕ) × Draws number old.seat new.seat)) × PutsAtMostOne recipe old new
 MakesForm recipe old new (Err (FormsFull drawn)) =
-    (new.asked ≡ old.asked) × Draws drawn old.seat new.seat × (16384 < drawn) × (new.learnt ≡ old.learnt) × (new.made ≡ old.made)
+    (new.asked ≡ old.asked) × Draws drawn old.seat new.seat × (most_forms < drawn) × (new.learnt ≡ old.learnt) × (new.made ≡ old.made)

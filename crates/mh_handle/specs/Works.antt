@@ -1,5 +1,5 @@
 -- What the calls that make handles require of a thread's `Work`, and how they change it.
-use Rattle.std.specs.Prelude.{◌≡◌, ℕ, ◌+◌, ◌*◌, ◌≤◌, ◌<◌, List, [], ◌∷◌, Result, Ok, Err}
+use Rattle.std.specs.Prelude.{◌≡◌, ℕ, ◌+◌, ◌*◌, ◌≤◌, List, [], ◌∷◌, Result, Ok, Err}
 use denote.Ref.{Bor}
 use Rattle.std.specs.Global.{Vec}
 use Rattle.mh_base.specs.declared.memory.NoMemory.{NoMemory as NoMemoryValue}
@@ -20,7 +20,7 @@ use Rattle.mh_intern.specs.declared.error.InternError.{InternError}
 use Rattle.mh_intern.specs.declared.error.InternError.TheVariants as intern
 use Rattle.mh_handle.specs.Form.{FormView}
 use Rattle.mh_handle.specs.Stands.{HandleView, Stands}
-use Rattle.mh_handle.specs.Passes.{AsksFor, NotAsked, Draws, DrawsAtMostOne, PutsAtMost, PutsAtMostOne, IsFormOf, IsPassOf, IsUnlearnt, StaysLearnt}
+use Rattle.mh_handle.specs.Passes.{DrawsAtMostOne, GivesForm, IsPassOf, LacksNumber, PutsAtMostOne, StaysLearnt}
 
 -- the leaves of the work
 abbrev pub leaves_of : Work → LeafTable
@@ -89,14 +89,10 @@ TradesTypes asks gone old new (Err (Refused e)) = Exchanges [] gone [] old.seat.
 
 -- how a request for a type and one edit change the pass; `recipe` is that of the new form
 abbrev pub MakesForm : List Key → Work → Work → Result (HoldView × Bor FormView) HandleError → Type 0
-MakesForm recipe old new (Ok made) =
-    (made.1.now.recipe ≡ recipe) × AsksFor made.1.now old.pass.now new.pass.now × DrawsAtMostOne recipe old.pass.now new.pass.now
-    × IsFormOf recipe new.pass.now made.1.now × PutsAtMost made.1.now old.pass.now new.pass.now
+MakesForm recipe old new (Ok made) = GivesForm recipe made.1.now old.pass.now new.pass.now
 MakesForm recipe old new (Err NoMemory) =
     (new.pass.now.asked ≡ old.pass.now.asked) × DrawsAtMostOne recipe old.pass.now new.pass.now × PutsAtMostOne recipe old.pass.now new.pass.now
-MakesForm recipe old new (Err (FormsFull drawn)) =
-    NotAsked recipe old.pass.now new.pass.now × Draws drawn old.pass.now.seat new.pass.now.seat × (16384 < drawn)
-    × IsUnlearnt recipe new.pass.now × (new.pass.now.made ≡ old.pass.now.made)
+MakesForm recipe old new (Err (FormsFull drawn)) = LacksNumber recipe drawn old.pass.now new.pass.now
 MakesForm recipe old new (Err (TypesFull bucket)) = new.pass.now ≡ old.pass.now
 MakesForm recipe old new (Err (Refused e)) = ⊥
 
@@ -135,14 +131,10 @@ HoldsTypes w holds = AreHeld w.seat.now holds
 -- It differs in the errors. A full table of types leaves the pass as it was, because types are asked for before the form.
 -- If memory runs out, the form may have been asked for earlier. A refusal by the rule changes nothing except the seat of types.
 abbrev pub Makes : List Key → Work → Work → Result Handle HandleError → Type 0
-Makes recipe old new (Ok h) =
-    (h.form.recipe ≡ recipe) × AsksFor h.form old.pass.now new.pass.now × DrawsAtMostOne recipe old.pass.now new.pass.now
-    × IsFormOf recipe new.pass.now h.form × PutsAtMost h.form old.pass.now new.pass.now
+Makes recipe old new (Ok h) = GivesForm recipe h.form old.pass.now new.pass.now
 Makes recipe old new (Err NoMemory) =
     (new.pass.now.asked ≡ old.pass.now.asked) × DrawsAtMostOne recipe old.pass.now new.pass.now × PutsAtMostOne recipe old.pass.now new.pass.now
-Makes recipe old new (Err (FormsFull drawn)) =
-    NotAsked recipe old.pass.now new.pass.now × Draws drawn old.pass.now.seat new.pass.now.seat × (16384 < drawn)
-    × IsUnlearnt recipe new.pass.now × (new.pass.now.made ≡ old.pass.now.made)
+Makes recipe old new (Err (FormsFull drawn)) = LacksNumber recipe drawn old.pass.now new.pass.now
 Makes recipe old new (Err (TypesFull bucket)) = new.pass.now ≡ old.pass.now
 Makes recipe old new (Err (Refused e)) = IsUnchanged old new
 
