@@ -32,31 +32,63 @@ use Rattle.mh_setonce.specs.contracts.mark.Mark.of.Key.{name as #self}
 use Rattle.mh_setonce.proofs.mark.Mark.of.Statement.{statement}
 use Rattle.mh_setonce.proofs.mark.Mark.of.Code as code
 
+-- The note is opened, and what it knows is had twice. One of both shuts the note again, and the other makes the mark.
 pub of_spec : {M : Type 1} → statement M
 of_spec 𝓤 𝓛 𝓜 𝓡 wired T L =
-    let H = 𝓛.H in let 𝓣 = tables 𝓤 H 𝓜 𝓡 𝓡.env in let R : RattleType = param 0 T in let En = ended T in let c = clauses T 𝓛 𝓜.mem 𝓡.returns in
-    let inst = layouts (a_type ∷ []) (T, tt) in let fn = inst_fn inst code.function in
-    let hs : Stays En.signature.params En.kept = (stay_ref (0 ∷ []) tt (plain (λ _. Note 𝓛 R)), tt) in
-    proved_at 𝓛 En hs c 𝓜 𝓡 (Goes-ref 𝓛 2 0 tt (plain (λ _. Note 𝓛 R)), tt) (#self inst) fn (code.unfolded 𝓤 H 𝓜 𝓡 wired (T, tt)) (λ z are.
-    let κs = z.0.0 in let qs = z.0.1 in let Post : Val → SProp 𝓤 = (walk_of 𝓛 En hs c).post z in let Run : List Val → SProp 𝓤 =
-    λ ws. WpFn 𝓤 H 𝓣.C 𝓣.Λ fn ws Post in
-    let κ' : Lft = κs.0 in let q' : Share = qs.0 in let m = z.0.3.0 in let nb₀ : ℕ = m.ref_ptr.0 in let no₀ : ℕ = m.ref_ptr.1 in let ν₀ : ℕ = m.ghost_name in
-    let n = m.now in let γ : ℕ = n.cell in
-    let Shuts = notes.Shuts 𝓛 R κ' q' nb₀ no₀ ν₀ in let N : Fml = noted R γ n.known in let Knows : Type 0 = (x : R.Denot) × (n.known ≡ Some x) in
-    qed 𝓛 (((‵ (flft κ' q') ⊛ ‵ (fsep (flft κs.1.0 qs.1.0) ftrue)) ⊛ ‵ (owns (types_at En.signature.params κs) z.0.3 z.0.4)) ∷ raw (fact 𝓤 (κs.1.0 ⊑ T.lives)) ∷
-    raw (fact 𝓤 Knows) ∷ []) ∵ move ! (2 ∷ []) $ heard ! Knows (λ e.
-    let x : R.Denot = e.0 in let r : (Mark.the_row R).Denot = record { marker = record {}; cell = γ; value = x } in let Told : Type 0 = (n ≡ n) × (γ ≡ γ)
-    × (n.known ≡ Some x) in
-    split ! $ split ! $ move ! (2 ∷ []) $ fsplit ! $ fsplit ! $ keep ! (1 ∷ 3 ∷ 4 ∷ []) $
-    suffices ! (Run (vptr nb₀ no₀ ∷ [])) (subst (λ (us : List Val). ent 𝓤 (Run (vptr nb₀ no₀ ∷ [])) (Run us)) (sym (λ i. are.0.0 i ++ []))
-    (id⊢ 𝓤 (Run (vptr nb₀ no₀ ∷ [])))) $
-    enter ! 𝓣.C 𝓣.Λ fn (vptr nb₀ no₀ ∷ []) Post $ alloc_all ! (λ l. pass_all ! refl ((tt, tt), tt) $
-    use2 𝓛 (later (‵ N ⊛ raw (all 𝓤 Shuts))) (notes.note_opens 𝓛 R κ' q' nb₀ no₀ ν₀ n) $ await ! tt $ split ! $ use1 𝓛 (‵ N ⊛ ‵ N)
-    (notes.noted_twice 𝓛 R γ n.known) $ split ! $ move ! (2 ∷ []) $ use1 𝓛 (raw (Shuts n)) (all_e 𝓤 Shuts n) $ move ! (1 ∷ 0 ∷ []) $ use2 𝓛
-    (later (‵ (notes.lent 𝓛 R κ' q' nb₀ no₀ ν₀ n) ⊛ ‵ (flft κ' q'))) (apply∗ 𝓤 (sem 𝓛 (noted R γ n.known)) _) $ await ! tt $ split ! $
-    feq_i ! (List Val) z.0.4.0 (vptr nb₀ no₀ ∷ []) are.0.0 $ fjoin ! $
-    nothing ! $ move ! (1 ∷ 0 ∷ []) $ fjoin ! $ move ! (2 ∷ []) $ rewrite ! 0 (λ (k : Option R.Denot). ‵ (noted R γ k)) e.1 refl $ use1 𝓛
-    (‵ ((Mark.the_row R).own_val r (token_val ∷ []))) (mark_made 𝓛 R γ x) $
-    sets ! (agg ! (no_more !)) refl (tt, tt) $ sets ! (agg ! (and_then ! (get ! refl) (no_more !))) refl (tt, (tt, tt)) $ move ! (2 ∷ 3 ∷ []) $ join ! $ use0 𝓛
-    (raw (fact 𝓤 Told)) (fact_i 𝓤 Told (emp 𝓤) (refl, refl, e.1)) $
-    returns ! (look_at ! 0 refl) $ free_all ! refl $ keep ! (1 ∷ 3 ∷ 2 ∷ 0 ∷ []) $ by ! (leaves 𝓛 En hs c z token_val r (n, tt) (tt, tt)))))
+    let H = 𝓛.H in
+    let 𝓣 = tables 𝓤 H 𝓜 𝓡 𝓡.env in
+    let R : RattleType = param 0 T in
+    let Ends = ended T in
+    let c = clauses T 𝓛 𝓜.mem 𝓡.returns in
+    -- the routine, for the type of what the cell holds
+    let instance = layouts (a_type ∷ []) (T, tt) in
+    let routine = inst_fn instance code.function in
+    -- the caller has its note again when the call returns
+    let stays : Stays Ends.signature.params Ends.kept = (stay_ref (0 ∷ []) tt (plain (λ _. Note 𝓛 R)), tt) in
+    proved_at 𝓛 Ends stays c 𝓜 𝓡 (Goes-ref 𝓛 2 0 tt (plain (λ _. Note 𝓛 R)), tt) (#self instance) routine (code.unfolded 𝓤 H 𝓜 𝓡 wired (T, tt)) (λ z are.
+    -- what the caller passes: lifetimes with shares of them, and a reference to a note
+    let lifetimes = z.0.0 in
+    let shares = z.0.1 in
+    let reference = z.0.3.0 in
+    let lifetime : Lft = lifetimes.0 in
+    let share : Share = shares.0 in
+    let block : ℕ = reference.ref_ptr.0 in
+    let offset : ℕ = reference.ref_ptr.1 in
+    let ghost_name : ℕ = reference.ghost_name in
+    let note = reference.now in
+    let cell : ℕ = note.cell in
+    let pointer : Val = vptr block offset in
+    -- what is so of the routine once it was run on values
+    let Post : Val → SProp 𝓤 = (walk_of 𝓛 Ends stays c).post z in
+    let Runs : List Val → SProp 𝓤 = λ values. WpFn 𝓤 H 𝓣.C 𝓣.Λ routine values Post in
+    let pointer-runs : ent 𝓤 (Runs (pointer ∷ [])) (Runs (z.0.4.0 ++ [])) =
+    subst (λ (values : List Val). ent 𝓤 (Runs (pointer ∷ [])) (Runs values)) (sym (λ i. are.0.0 i ++ [])) (id⊢ 𝓤 (Runs (pointer ∷ []))) in
+    -- what the note notes, and what shuts it again
+    let Noted : Fml = noted R cell note.known in
+    let Shuts = notes.Shuts 𝓛 R lifetime share block offset ghost_name in
+    let Lent : Fml = notes.lent 𝓛 R lifetime share block offset ghost_name note in
+    -- what the caller knows, and what the function tells
+    let Knows : Type 0 = (x : R.Denot) × (note.known ≡ Some x) in
+    qed 𝓛 (((‵ (flft lifetime share) ⊛ ‵ (fsep (flft lifetimes.1.0 shares.1.0) ftrue)) ⊛ ‵ (owns (types_at Ends.signature.params lifetimes) z.0.3 z.0.4)) ∷
+    raw (fact 𝓤 (lifetimes.1.0 ⊑ T.lives)) ∷ raw (fact 𝓤 Knows) ∷ []) ∵ move ! (2 ∷ []) $ heard ! Knows (λ known.
+    let value : R.Denot = known.0 in
+    let made : (Mark.the_row R).Denot = record { marker = record {}; cell = cell; value = value } in
+    let Told : Type 0 = (note ≡ note) × (cell ≡ cell) × (note.known ≡ Some value) in
+    -- the call takes the pointer to the note
+    split ! $ split ! $ move ! (2 ∷ []) $ fsplit ! $ fsplit ! $ keep ! (1 ∷ 3 ∷ 4 ∷ []) $ suffices ! (Runs (pointer ∷ [])) pointer-runs $
+    enter ! 𝓣.C 𝓣.Λ routine (pointer ∷ []) Post $ alloc_all ! (λ l. pass_all ! refl ((tt, tt), tt) $
+    -- the note is opened, and what it notes is had twice
+    use2 𝓛 (later (‵ Noted ⊛ raw (all 𝓤 Shuts))) (notes.note_opens 𝓛 R lifetime share block offset ghost_name note) $ await ! tt $ split ! $
+    use1 𝓛 (‵ Noted ⊛ ‵ Noted) (notes.noted_twice 𝓛 R cell note.known) $ split ! $ move ! (2 ∷ []) $
+    -- one of both shuts it, as it was
+    use1 𝓛 (raw (Shuts note)) (all_e 𝓤 Shuts note) $ move ! (1 ∷ 0 ∷ []) $
+    use2 𝓛 (later (‵ Lent ⊛ ‵ (flft lifetime share))) (apply∗ 𝓤 (sem 𝓛 Noted) _) $ await ! tt $ split ! $
+    feq_i ! (List Val) z.0.4.0 (pointer ∷ []) are.0.0 $ fjoin ! $ nothing ! $ move ! (1 ∷ 0 ∷ []) $ fjoin ! $ move ! (2 ∷ []) $
+    -- the other makes the mark
+    rewrite ! 0 (λ (k : Option R.Denot). ‵ (noted R cell k)) known.1 refl $
+    use1 𝓛 (‵ ((Mark.the_row R).own_val made (token_val ∷ []))) (mark_made 𝓛 R cell value) $
+    -- the routine writes the mark, which has no bytes
+    sets ! (agg ! (no_more !)) refl (tt, tt) $ sets ! (agg ! (and_then ! (get ! refl) (no_more !))) refl (tt, (tt, tt)) $ move ! (2 ∷ 3 ∷ []) $ join ! $
+    -- and returns it, with what its clause says
+    use0 𝓛 (raw (fact 𝓤 Told)) (fact_i 𝓤 Told (emp 𝓤) (refl, refl, known.1)) $ returns ! (look_at ! 0 refl) $ free_all ! refl $
+    keep ! (1 ∷ 3 ∷ 2 ∷ 0 ∷ []) $ by ! (leaves 𝓛 Ends stays c z token_val made (note, tt) (tt, tt)))))
