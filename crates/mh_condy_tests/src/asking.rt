@@ -5,13 +5,15 @@ ghost use Rattle.mh_seats.specs.Room.{limit};
 ghost use Rattle.mh_tickets.specs.Seats.{new_seat};
 ghost use Rattle.mh_condy_tests.specs.Built.{CanResolve};
 
-use mh_base::NoMemory;
+use crate::broken::Broken;
 use mh_condy::{Const, ConstPass, ConstRun, ConstSeat, ConstTable, ConstValue};
 use mh_values::{ClassId, Exc, Num, Value};
 use std::sync::Wait;
 
 /// The most constants that a table may have here.
 const MOST: usize = 16_384;
+
+const TOO_LONG: Broken = Broken::Fixture("a table of more than 16,384 constants");
 
 /// What is recorded of a constant: a number, or an error by its class and that of its cause.
 #[derive(Clone, Copy, Debug, PartialEq, Eq)]
@@ -45,13 +47,13 @@ pub fn resolve<'s, 't, J: ConstRun, R: Wait>(
     table: &'s ConstTable<'t, J>,
     pass: &mut ConstPass<'s, 't, J>,
     constant: u32,
-) -> Result<Answer, NoMemory>
+) -> Result<Answer, Broken>
     requires { CanResolve table.now pass.old }
     ensures table { pass.new.table ≡ pass.old.table }
     ensures can { OnOk result (CanResolve table.now pass.new) }
 {
     if constant as usize >= table.len() {
-        return Err(NoMemory);
+        return Err(Broken::Fixture("a constant that is not in the table"));
     }
     Ok(answer_of(table.resolve_const(rt, pass, constant)?))
 }
@@ -60,27 +62,27 @@ pub fn resolve<'s, 't, J: ConstRun, R: Wait>(
 pub fn first_pass<'s, 't, J: ConstRun>(
     table: &'s ConstTable<'t, J>,
     seat: ConstSeat,
-) -> Result<ConstPass<'s, 't, J>, NoMemory>
+) -> Result<ConstPass<'s, 't, J>, Broken>
     requires { seat ≡ new_seat table.now.serials limit }
     ensures { IfOk result (CanResolve table.entry.now) }
 {
     if table.len() > MOST {
-        return Err(NoMemory);
+        return Err(TOO_LONG);
     }
-    table.first_pass(seat)
+    Ok(table.first_pass(seat)?)
 }
 
 /// Two passes of a table.
 pub fn two_passes<'s, 't, J: ConstRun>(
     table: &'s ConstTable<'t, J>,
     seat: ConstSeat,
-) -> Result<(ConstPass<'s, 't, J>, ConstPass<'s, 't, J>), NoMemory>
+) -> Result<(ConstPass<'s, 't, J>, ConstPass<'s, 't, J>), Broken>
     requires { seat ≡ new_seat table.now.serials limit }
     ensures one { IfOk result (λ passes. CanResolve table.entry.now passes.0) }
     ensures two { IfOk result (λ passes. CanResolve table.entry.now passes.1) }
 {
     if table.len() > MOST {
-        return Err(NoMemory);
+        return Err(TOO_LONG);
     }
     let mut one = table.first_pass(seat)?;
     let two = table.split(&mut one, 1)?;

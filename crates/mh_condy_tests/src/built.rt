@@ -5,6 +5,7 @@ ghost use Rattle.mh_jobs.specs.declared.unresolved.Part.TheVariants.{Constant};
 ghost use Rattle.mh_condy.specs.Runs.{AreResolvable};
 ghost use Rattle.mh_condy_tests.specs.Built.{AreOver, IsOver, are_below, run_of};
 
+use crate::broken::Broken;
 use mh_base::{Frozen, NoMemory, Seq};
 use mh_jobs::{ConstBootstrap, ConstJob, ConstJobs, Part, StaticArguments};
 use mh_leaves::{Leaves, read_manifest};
@@ -37,6 +38,8 @@ pub const TEXT: u32 = 4;
 
 /// Gives the serial of the attempt if it is even, and throws otherwise.
 pub const EVEN: u32 = 5;
+
+const TOO_MANY: Broken = Broken::Fixture("more constants than there are numbers");
 
 /// A constant of the type `long`: those whose values its script is given, and the script.
 #[derive(Clone, Copy)]
@@ -83,11 +86,11 @@ fn job(
     below: u32,
     entry: Entry<'_>,
     scripts: &Scripts,
-) -> Result<ConstJob, NoMemory>
+) -> Result<ConstJob, Broken>
     ensures { IfOk result (IsOver below (length scripts.now) number) }
 {
     if !are_below(entry.names, below) || entry.script as usize >= scripts.len() {
-        return Err(NoMemory);
+        return Err(Broken::Fixture("a constant over one, or of a script, that is not there"));
     }
     let arguments = StaticArguments {
         parts: Frozen::of(alloc, parts_of(alloc, entry.names)?)?,
@@ -108,42 +111,42 @@ fn job(
 }
 
 /// No constants.
-fn nothing(alloc: Global) -> Result<Built, NoMemory>
+fn nothing(alloc: Global) -> Result<Built, Broken>
     ensures { IfOk result (λ built. built.jobs ≡ []) }
 {
     Ok(Built {
         jobs: ConstJobs::new(alloc),
-        scripts: read_scripts(alloc, SCRIPTS).map_err(|_| NoMemory)?,
-        leaves: read_manifest(alloc, b"").map_err(|_| NoMemory)?,
+        scripts: read_scripts(alloc, SCRIPTS)?,
+        leaves: read_manifest(alloc, b"")?,
     })
 }
 
 /// Adds a constant after the others, which stands over constants below a number.
-fn add(alloc: Global, built: &mut Built, below: u32, entry: Entry<'_>) -> Result<(), NoMemory>
+fn add(alloc: Global, built: &mut Built, below: u32, entry: Entry<'_>) -> Result<(), Broken>
     requires { AreOver below built.old }
     ensures { OnOk result (AreOver below built.new) }
 {
-    let number = u32::try_from(built.jobs.len()).or(Err(NoMemory))?;
+    let number = u32::try_from(built.jobs.len()).or(Err(TOO_MANY))?;
     let job = job(alloc, number, below, entry, &built.scripts)?;
-    built.jobs.push(job)
+    Ok(built.jobs.push(job)?)
 }
 
 /// All constants, of which there are to be this many.
-fn all(built: Built, count: u32) -> Result<Built, NoMemory>
+fn all(built: Built, count: u32) -> Result<Built, Broken>
     requires { AreOver count built }
     ensures { IfOk result (λ built. AreResolvable (run_of built)) }
 {
     if built.jobs.len() != count as usize {
-        return Err(NoMemory);
+        return Err(Broken::Fixture("another number of constants than there is to be"));
     }
     Ok(built)
 }
 
 /// The constants of a list.
-pub fn of_entries(alloc: Global, entries: &[Entry<'_>]) -> Result<Built, NoMemory>
+pub fn of_entries(alloc: Global, entries: &[Entry<'_>]) -> Result<Built, Broken>
     ensures { IfOk result (λ built. AreResolvable (run_of built)) }
 {
-    let count = u32::try_from(entries.len()).or(Err(NoMemory))?;
+    let count = u32::try_from(entries.len()).or(Err(TOO_MANY))?;
     let mut built = nothing(alloc)?;
     for entry in entries {
         add(alloc, &mut built, count, *entry)?;
@@ -153,7 +156,7 @@ pub fn of_entries(alloc: Global, entries: &[Entry<'_>]) -> Result<Built, NoMemor
 
 /// The rung of a ladder before the next one: the last gives its serial, and each other one what the
 /// next gives, which is its static argument twice.
-fn rung(alloc: Global, built: &mut Built, next: u32, rungs: u32) -> Result<(), NoMemory>
+fn rung(alloc: Global, built: &mut Built, next: u32, rungs: u32) -> Result<(), Broken>
     requires { AreOver rungs built.old }
     ensures { OnOk result (AreOver rungs built.new) }
 {
@@ -172,7 +175,7 @@ fn rung(alloc: Global, built: &mut Built, next: u32, rungs: u32) -> Result<(), N
 }
 
 /// A ladder of this many rungs.
-pub fn ladder(alloc: Global, rungs: u32) -> Result<Built, NoMemory>
+pub fn ladder(alloc: Global, rungs: u32) -> Result<Built, Broken>
     ensures { IfOk result (λ built. AreResolvable (run_of built)) }
 {
     let mut built = nothing(alloc)?;
@@ -183,10 +186,10 @@ pub fn ladder(alloc: Global, rungs: u32) -> Result<Built, NoMemory>
 }
 
 /// One constant over this many others.
-pub fn wide(alloc: Global, others: u32) -> Result<Built, NoMemory>
+pub fn wide(alloc: Global, others: u32) -> Result<Built, Broken>
     ensures { IfOk result (λ built. AreResolvable (run_of built)) }
 {
-    let count = others.checked_add(1).ok_or(NoMemory)?;
+    let count = others.checked_add(1).ok_or(TOO_MANY)?;
     let mut names = Vec::new(alloc);
     for name in 1..count {
         names.push(name)?;

@@ -2,6 +2,7 @@
 #![tactic(auto)]
 
 mod asking;
+mod broken;
 mod built;
 #[cfg(test)]
 mod passes;
@@ -11,4 +12,5 @@ mod racing;
 mod rows;
 
 pub use asking::{Answer, Recorded, first_pass, resolve, two_passes};
+pub use broken::Broken;
 pub use built::{Built, Entry, ladder, of_entries, wide};

@@ -1,4 +1,5 @@
 use crate::asking::{Answer, Recorded};
+use crate::broken::Broken;
 use crate::built::{EVEN, Entry, FIRST, RAISE, SECOND, SERIAL, TEXT, ladder, of_entries, wide};
 use crate::rows::{Ask, By, Seen, answers_of};
 use mh_base::NoMemory;
@@ -140,53 +141,47 @@ static ROWS: [Row; 6] = [
     },
 ];
 
-/// Whether these are the attempts.
-fn are_those(attempts: &[ConstAttempt], wanted: &[(u32, u32, u64)]) -> bool {
-    if attempts.len() != wanted.len() {
-        return false;
+/// The thread, the constant and the serial of each attempt.
+fn parts_of(alloc: Global, attempts: &[ConstAttempt]) -> Result<Vec<(u32, u32, u64)>, NoMemory> {
+    let mut parts = Vec::new(alloc);
+    for it in attempts {
+        parts.push((it.thread, it.constant, it.serial))?;
     }
-    for at in 0..attempts.len() {
-        let attempt = attempts[at];
-        if (attempt.thread, attempt.constant, attempt.serial) != wanted[at] {
-            return false;
-        }
-    }
-    true
+    Ok(parts)
 }
 
-/// Whether two passes answer so, and have made these attempts.
-fn holds<R: Wait>(rt: &R, alloc: Global, row: &Row) -> Result<bool, NoMemory> {
+/// What two passes answer and have attempted.
+fn seen_of<R: Wait>(rt: &R, alloc: Global, row: &Row) -> Result<Seen, Broken> {
     let built = of_entries(alloc, row.entries)?;
-    let seen = answers_of(rt, alloc, &built, row.asks)?;
-    Ok(seen.answers.as_slice() == row.answers && are_those(seen.attempts.as_slice(), row.attempts))
+    answers_of(rt, alloc, &built, row.asks)
 }
 
 #[test]
 fn what_passes_answer_one_after_the_other(rt: HostRuntime) -> Result<(), Fail> {
     for row in &ROWS {
-        assert!(rt; holds(&rt, rt.alloc(), row)?, "{}", row.name);
+        let seen = seen_of(&rt, rt.alloc(), row)?;
+        assert_eq!(rt; seen.answers.as_slice(), row.answers, "{}", row.name);
+        let attempts = parts_of(rt.alloc(), seen.attempts.as_slice())?;
+        assert_eq!(rt; attempts.as_slice(), row.attempts, "{}", row.name);
     }
     Ok(())
 }
 
-/// Whether the attempts are those of a thread at the constants from one on, in their order, with the
-/// serials from 1 on.
-fn are_in_order(attempts: &[ConstAttempt], from: u32) -> bool {
+/// The place, the thread, the constant and the serial of the first attempt that is not what it should
+/// be: one of thread 0 at the constant of its place, with the serials from 1 on.
+fn first_out_of_order(attempts: &[ConstAttempt]) -> Option<(u64, u32, u32, u64)> {
     for at in 0..attempts.len() {
-        let number = at as u64;
-        let attempt = attempts[at];
-        if attempt.thread != 0
-            || u64::from(attempt.constant) != number + u64::from(from)
-            || attempt.serial != number + 1
-        {
-            return false;
+        let place = at as u64;
+        let it = attempts[at];
+        if it.thread != 0 || u64::from(it.constant) != place || it.serial != place + 1 {
+            return Some((place, it.thread, it.constant, it.serial));
         }
     }
-    true
+    None
 }
 
 /// What two passes answer at the top of a ladder.
-fn climbed<R: Wait>(rt: &R, alloc: Global, rungs: u32, asks: &[Ask]) -> Result<Seen, NoMemory> {
+fn climbed<R: Wait>(rt: &R, alloc: Global, rungs: u32, asks: &[Ask]) -> Result<Seen, Broken> {
     let built = ladder(alloc, rungs)?;
     answers_of(rt, alloc, &built, asks)
 }
@@ -204,22 +199,24 @@ fn each_rung_of_a_ladder_is_attempted_once(rt: HostRuntime) -> Result<(), Fail> 
         (1, Recorded::Number(64)),
         (64, Recorded::Number(64)),
     ];
-    assert!(rt; seen.answers.as_slice() == answers.as_slice());
-    assert!(rt; seen.attempts.len() == 64 && are_in_order(seen.attempts.as_slice(), 0));
-    assert!(rt; seen.recorded.len() == 64);
+    assert_eq!(rt; seen.answers.as_slice(), answers.as_slice());
+    assert_eq!(rt; first_out_of_order(seen.attempts.as_slice()), None);
+    assert_eq!(rt; (seen.attempts.len(), seen.recorded.len()), (64, 64));
     Ok(())
 }
 
 #[test]
 fn a_ladder_of_65_rungs_is_too_deep_at_its_top_alone(rt: HostRuntime) -> Result<(), Fail> {
     let seen = climbed(&rt, rt.alloc(), 65, &[(By::One, 0), (By::One, 1)])?;
-    assert!(rt; seen.answers.as_slice() == [(1, TOO_DEEP), (2, Recorded::Number(65))].as_slice());
-    assert!(rt; seen.attempts.len() == 65 && are_in_order(seen.attempts.as_slice(), 0));
+    let answers = [(1, TOO_DEEP), (2, Recorded::Number(65))];
+    assert_eq!(rt; seen.answers.as_slice(), answers.as_slice());
+    assert_eq!(rt; first_out_of_order(seen.attempts.as_slice()), None);
+    assert_eq!(rt; seen.attempts.len(), 65);
     Ok(())
 }
 
 /// What two passes answer of one constant over this many others.
-fn spread<R: Wait>(rt: &R, alloc: Global, others: u32) -> Result<Seen, NoMemory> {
+fn spread<R: Wait>(rt: &R, alloc: Global, others: u32) -> Result<Seen, Broken> {
     let built = wide(alloc, others)?;
     answers_of(
         rt,
@@ -232,15 +229,12 @@ fn spread<R: Wait>(rt: &R, alloc: Global, others: u32) -> Result<Seen, NoMemory>
 #[test]
 fn static_arguments_are_resolved_from_the_left(rt: HostRuntime) -> Result<(), Fail> {
     let seen = spread(&rt, rt.alloc(), 255)?;
-    assert!(rt;
-        seen.answers.as_slice()
-            == [
-                (1, Recorded::Number(2)),
-                (1, Recorded::Number(2)),
-                (256, Recorded::Number(256))
-            ]
-            .as_slice()
-    );
-    assert!(rt; seen.attempts.len() == 256 && seen.recorded.len() == 256);
+    let answers = [
+        (1, Recorded::Number(2)),
+        (1, Recorded::Number(2)),
+        (256, Recorded::Number(256)),
+    ];
+    assert_eq!(rt; seen.answers.as_slice(), answers.as_slice());
+    assert_eq!(rt; (seen.attempts.len(), seen.recorded.len()), (256, 256));
     Ok(())
 }

@@ -5,8 +5,8 @@ ghost use Rattle.mh_condy.specs.Runs.{AreResolvable};
 ghost use Rattle.mh_condy_tests.specs.Built.{CanResolve, run_of};
 
 use crate::asking::{Answer, resolve, two_passes};
+use crate::broken::Broken;
 use crate::built::{Built, ladder, wide};
-use mh_base::NoMemory;
 use mh_condy::{ConstAttempt, ConstPass, ConstRun, ConstTable};
 use std::alloc::Global;
 use std::marker::Brand;
@@ -45,14 +45,16 @@ fn resolve_all<'s, 't, J: ConstRun, R: Wait>(
     table: &'s ConstTable<'t, J>,
     pass: &mut ConstPass<'s, 't, J>,
     meeting: &Meeting,
-) -> Result<Vec<Answer>, NoMemory>
+) -> Result<Vec<Answer>, Broken>
     requires { CanResolve table.now pass.old }
     ensures { pass.new.table ≡ pass.old.table }
 {
     meeting.come();
     let mut answers = Vec::new(alloc);
     for constant in 0..table.len() {
-        let constant = u32::try_from(constant).or(Err(NoMemory))?;
+        let constant = u32::try_from(constant).or(Err(Broken::Fixture(
+            "a table that is too long",
+        )))?;
         answers.push(resolve(rt, table, pass, constant)?)?;
     }
     Ok(answers)
@@ -63,32 +65,73 @@ fn count_of(attempts: &[ConstAttempt], constant: u32) -> usize {
     attempts.iter().filter(|it| it.constant == constant).count()
 }
 
-/// Whether these attempts have recorded each constant once, the answers are what they have recorded,
-/// and no constant was attempted more than twice.
-fn are_those(answers: &[Answer], recorded: &[ConstAttempt], attempts: &[ConstAttempt]) -> bool {
-    for attempt in recorded {
-        let at = attempt.constant as usize;
-        if at >= answers.len()
-            || answers[at].0 != attempt.serial
-            || !attempts.contains(attempt)
-            || count_of(recorded, attempt.constant) != 1
-            || count_of(attempts, attempt.constant) > 2
-        {
-            return false;
+/// What is wrong, and of which constant.
+type Fault = (&'static str, u32);
+
+/// The first constant of which the answers of two threads differ, or all if one has more answers.
+fn first_apart(a: &[Answer], b: &[Answer]) -> Option<Fault> {
+    for (at, (one, two)) in a.iter().zip(b.iter()).enumerate() {
+        if one != two {
+            return Some(("two answers", at as u32));
         }
     }
-    recorded.len() == answers.len()
+    if a.len() != b.len() {
+        return Some(("fewer answers", a.len() as u32));
+    }
+    None
 }
 
-/// Whether two threads that resolve the same constants get the same of each, which one of them has
-/// recorded.
+/// What is wrong with what is recorded of a constant: it is not what is answered or attempted, it is
+/// not alone, or the constant was attempted more than twice.
+fn fault_of(
+    attempt: &ConstAttempt,
+    answers: &[Answer],
+    recorded: &[ConstAttempt],
+    attempts: &[ConstAttempt],
+) -> Option<Fault> {
+    let constant = attempt.constant;
+    let at = constant as usize;
+    if at >= answers.len() || answers[at].0 != attempt.serial {
+        return Some(("another answer than is recorded", constant));
+    }
+    if !attempts.contains(attempt) {
+        return Some(("recorded without an attempt", constant));
+    }
+    if count_of(recorded, constant) != 1 {
+        return Some(("recorded twice", constant));
+    }
+    if count_of(attempts, constant) > 2 {
+        return Some(("attempted more than twice", constant));
+    }
+    None
+}
+
+/// The first fault of attempts that should have recorded each constant once, with what is answered.
+fn first_fault(
+    answers: &[Answer],
+    recorded: &[ConstAttempt],
+    attempts: &[ConstAttempt],
+) -> Option<Fault> {
+    for attempt in recorded {
+        if let Some(fault) = fault_of(attempt, answers, recorded, attempts) {
+            return Some(fault);
+        }
+    }
+    if recorded.len() != answers.len() {
+        return Some(("not all are recorded", recorded.len() as u32));
+    }
+    None
+}
+
+/// What is wrong after two threads have resolved the same constants. They should get the same of each,
+/// which one of them has recorded.
 fn agree<'s, 't, J: ConstRun + Send + Sync, R: Threads + Wait + Sync>(
     rt: &R,
     alloc: Global,
     table: &'s ConstTable<'t, J>,
     mut one: ConstPass<'s, 't, J>,
     mut two: ConstPass<'s, 't, J>,
-) -> Result<bool, NoMemory>
+) -> Result<Option<Fault>, Broken>
     requires one { CanResolve table.now one }
     requires two { CanResolve table.now two }
 {
@@ -102,7 +145,11 @@ fn agree<'s, 't, J: ConstRun + Send + Sync, R: Threads + Wait + Sync>(
     );
     let (a, b) = (a?, b?);
     table.join(&mut one, two)?;
-    Ok(a.as_slice() == b.as_slice() && are_those(a.as_slice(), one.recorded(), one.attempts()))
+    let apart = first_apart(a.as_slice(), b.as_slice());
+    if apart.is_some() {
+        return Ok(apart);
+    }
+    Ok(first_fault(a.as_slice(), one.recorded(), one.attempts()))
 }
 
 /// The same over a new table.
@@ -110,7 +157,7 @@ fn agree_on<J: ConstRun + Send + Sync, R: Threads + Wait + Sync>(
     rt: &R,
     alloc: Global,
     built: &Built,
-) -> Result<bool, NoMemory>
+) -> Result<Option<Fault>, Broken>
     requires run { run_of built.now ≡ J.run }
     requires are { AreResolvable J.run }
 {
@@ -120,7 +167,11 @@ fn agree_on<J: ConstRun + Send + Sync, R: Threads + Wait + Sync>(
 }
 
 /// The same of these constants.
-fn race<R: Threads + Wait + Sync>(rt: &R, alloc: Global, built: &Built) -> Result<bool, NoMemory>
+fn race<R: Threads + Wait + Sync>(
+    rt: &R,
+    alloc: Global,
+    built: &Built,
+) -> Result<Option<Fault>, Broken>
     requires { AreResolvable (run_of built.now) }
 {
     agree_on::<Brand, R>(rt, alloc, built)
@@ -129,30 +180,40 @@ fn race<R: Threads + Wait + Sync>(rt: &R, alloc: Global, built: &Built) -> Resul
 /// How often two threads race for the same constants.
 const RACES: u32 = 10;
 
-/// Whether two threads agree in each race for these constants.
+/// What is wrong after the first race for these constants after which something is.
 fn race_often<R: Threads + Wait + Sync>(
     rt: &R,
     alloc: Global,
     built: &Built,
-) -> Result<bool, NoMemory>
+) -> Result<Option<Fault>, Broken>
     requires { AreResolvable (run_of built.now) }
 {
     for _ in 0..RACES {
-        if !race(rt, alloc, built)? {
-            return Ok(false);
+        let fault = race(rt, alloc, built)?;
+        if fault.is_some() {
+            return Ok(fault);
         }
     }
-    Ok(true)
+    Ok(None)
 }
 
 #[test]
 fn threads_that_race_for_a_constant_get_the_same(rt: HostRuntime) -> Result<(), Fail> {
     let alloc = rt.alloc();
-    assert!(rt; race_often(&rt, alloc, &wide(alloc, 0)?)?, "one constant");
-    assert!(rt; race_often(&rt, alloc, &ladder(alloc, 64)?)?, "a ladder");
-    assert!(rt;
+    assert_eq!(rt;
+        race_often(&rt, alloc, &wide(alloc, 0)?)?,
+        None,
+        "one constant"
+    );
+    assert_eq!(rt;
+        race_often(&rt, alloc, &ladder(alloc, 64)?)?,
+        None,
+        "a ladder"
+    );
+    assert_eq!(rt;
         race_often(&rt, alloc, &wide(alloc, 255)?)?,
-        "one constant over others"
+        None,
+        "one over others"
     );
     Ok(())
 }

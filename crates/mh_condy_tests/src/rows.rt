@@ -5,8 +5,8 @@ ghost use Rattle.mh_condy.specs.Runs.{AreResolvable};
 ghost use Rattle.mh_condy_tests.specs.Built.{CanResolve, run_of};
 
 use crate::asking::{Answer, resolve, two_passes};
+use crate::broken::Broken;
 use crate::built::Built;
-use mh_base::NoMemory;
 use mh_condy::{ConstAttempt, ConstPass, ConstRun, ConstTable};
 use std::alloc::Global;
 use std::marker::Brand;
@@ -37,7 +37,7 @@ fn asked_in_turn<'s, 't, J: ConstRun, R: Wait>(
     table: &'s ConstTable<'t, J>,
     passes: (ConstPass<'s, 't, J>, ConstPass<'s, 't, J>),
     asks: &[Ask],
-) -> Result<Seen, NoMemory>
+) -> Result<Seen, Broken>
     requires one { CanResolve table.now passes.0 }
     requires two { CanResolve table.now passes.1 }
 {
@@ -65,7 +65,7 @@ fn asked<J: ConstRun, R: Wait>(
     alloc: Global,
     built: &Built,
     asks: &[Ask],
-) -> Result<Seen, NoMemory>
+) -> Result<Seen, Broken>
     requires run { run_of built.now ≡ J.run }
     requires are { AreResolvable J.run }
 {
@@ -80,7 +80,7 @@ pub(crate) fn answers_of<R: Wait>(
     alloc: Global,
     built: &Built,
     asks: &[Ask],
-) -> Result<Seen, NoMemory>
+) -> Result<Seen, Broken>
     requires { AreResolvable (run_of built.now) }
 {
     asked::<Brand, R>(rt, alloc, built, asks)

@@ -1,0 +1,44 @@
+use mh_base::NoMemory;
+use mh_leaves::ManifestError;
+use mh_script::ScriptError;
+use std::alloc::AllocError;
+
+/// Why a test cannot go on: no memory is left, or something of its own fixture is refused.
+#[derive(Clone, Copy, Debug, PartialEq, Eq)]
+pub enum Broken {
+    NoMemory,
+    /// What is wrong, in words.
+    Fixture(&'static str),
+    Manifest(ManifestError),
+    Scripts(ScriptError),
+}
+
+impl From<NoMemory> for Broken {
+    fn from(_: NoMemory) -> Self {
+        Broken::NoMemory
+    }
+}
+
+impl From<AllocError> for Broken {
+    fn from(_: AllocError) -> Self {
+        Broken::NoMemory
+    }
+}
+
+impl From<ManifestError> for Broken {
+    fn from(error: ManifestError) -> Self {
+        match error {
+            ManifestError::NoMemory => Broken::NoMemory,
+            fault => Broken::Manifest(fault),
+        }
+    }
+}
+
+impl From<ScriptError> for Broken {
+    fn from(error: ScriptError) -> Self {
+        match error {
+            ScriptError::NoMemory => Broken::NoMemory,
+            fault => Broken::Scripts(fault),
+        }
+    }
+}
