@@ -46,14 +46,14 @@ run_edits given attempts edits = flat_map (attempt_edits given) attempts ++ edit
 -- In `asked`, the recipes `edits` are those of all calls before the step, and those that the base had asked for. The step holds whatever they are.
 -- The condition of `asked` is that the pass had asked for the recipes of the attempts before and for `edits`. It has then asked for `more` as well.
 -- The condition of `within` is that at most as many numbers were drawn as forms were asked for. That stays so, and no room is lost.
--- The steps before this one meet both conditions (`runs-both` of `proofs/RunSteps`).
--- For the first step, the split pass meets them (`asked-split` and `within-split` of `proofs/LaneEnds`).
+-- The steps before this one meet both conditions (`runs-both` of `proofs/asking/RunSteps`).
+-- For the first step, the split pass meets them (`asked-split` and `within-split` of `proofs/lanes/LaneEnds`).
 pub record HasRunOn (given : Given) (before after : List Attempt) (more : List (List Key)) (old new : PassView) : Type 0 where
   pub asked : (edits : List (List Key)) → HasAsked (run_edits given before edits) old → HasAsked (run_edits given after (edits ++ more)) new
   pub within : (whole : ℕ) → DrawsWithin whole old → DrawsWithin whole new
 
 -- A step that stopped. At most one number was drawn for each recipe of the attempts after it, of `edits` and of `more`.
--- Its conditions are those of `HasRunOn`. The steps before it meet them in the same way (`out-second` of `proofs/RunSteps`).
+-- Its conditions are those of `HasRunOn`. The steps before it meet them in the same way (`out-second` of `proofs/asking/RunSteps`).
 abbrev pub HasRunOut : Given → List Attempt → List Attempt → List (List Key) → PassView → PassView → Type 0
 HasRunOut given before after more old new =
     (whole : ℕ) → DrawsWithin whole old → (edits : List (List Key)) → HasAsked (run_edits given before edits) old
@@ -67,7 +67,7 @@ RunStops given before after more old new (TypesFull bucket) = HasRunOut given be
 RunStops given before after more old new NoMemory = Unit {0}
 
 -- A step that came to its end or stopped. `resolve`, `call` and `run_thread` promise it of the pass over the forms (`runs` of `Linkers`).
--- For all calls of a thread its conditions are met, and what it gives then is `EndsBy` of `Lanes` (`ends-by` of `proofs/LaneEnds`).
+-- For all calls of a thread its conditions are met, and what it gives then is `EndsBy` of `Lanes` (`ends-by` of `proofs/lanes/LaneEnds`).
 abbrev pub RunsOn : {A : Type 0} → Given → List Attempt → List Attempt → List (List Key) → PassView → PassView → Result A WorkError → Type 0
 RunsOn given before after more old new (Ok a) = HasRunOn given before after more old new
 RunsOn given before after more old new (Err e) = RunStops given before after more old new e
@@ -92,7 +92,7 @@ WasAsked types seat = (t : MethodTy) → times_type t types ≡ 0 → times_type
 -- A step of calls that ask for the types `more`. The types `types` are those of all calls before the step, and it holds whatever they are.
 -- Its condition is that the seat was asked for no types but those of the attempts before and `types`.
 -- The seat was then asked for no types but those of the attempts after, `types` and `more`.
--- The steps before this one meet the condition (`on-both` of `proofs/SeatAsked`). For the first step, the seat of a split pass was asked for no type.
+-- The steps before this one meet the condition (`on-both` of `proofs/asking/SeatAsked`). For the first step, the seat of a split pass was asked for no type.
 abbrev pub HasAskedOn : Given → List Attempt → List Attempt → List MethodTy → SeatView → SeatView → Type 0
 HasAskedOn given before after more old new =
     (types : List MethodTy) → WasAsked (run_types given before types) old → WasAsked (run_types given after (types ++ more)) new

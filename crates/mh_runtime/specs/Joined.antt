@@ -1,8 +1,8 @@
 -- What is known of the passes of all threads of a run, and of the passes that they are joined to.
--- These relations are conditions of the lemmas on a run's ledger, forms and numbers (`proofs/Ledger`, `Counted`, `Needed`).
--- No caller of `run_all` has to meet them. Those of one thread follow from what `run_thread` promises (`has-run` of `proofs/LaneEnds`).
--- Those of all threads hold before any lane is joined. Each lane that is joined keeps them (`joined-push` of `proofs/JoiningSteps`).
--- Those of joined passes follow once all lanes are joined to a base with which nothing was done (`joined-all` of `proofs/WholeJoin`).
+-- These relations are conditions of the lemmas on a run's ledger, forms and numbers (`proofs/ledger/Ledger`, `Counted`, `Needed`).
+-- No caller of `run_all` has to meet them. Those of one thread follow from what `run_thread` promises (`has-run` of `proofs/lanes/LaneEnds`).
+-- Those of all threads hold before any lane is joined. Each lane that is joined keeps them (`joined-push` of `proofs/lanes/JoiningSteps`).
+-- Those of joined passes follow once all lanes are joined to a base with which nothing was done (`joined-all` of `proofs/lanes/WholeJoin`).
 use Rattle.std.specs.Prelude.{◌≡◌, ℕ, List, ◌++◌, length, map, Some, slice_get}
 use Rattle.std.specs.List.{All, flat_map, range_with_len}
 use Rattle.std.specs.List.Sorted.{IsPermutation}
@@ -74,7 +74,7 @@ abbrev pub edits_of : Given → List (List Call) → List ThreadPasses → List 
 edits_of given threads all = flat_map (λ p. flat_map (attempt_edits given) p.links.attempts) all ++ plan_edits given.leaves threads
 
 -- These are the attempts in the order of their serials, which are 1, 2, 3, and so on.
--- It follows because no serial was drawn twice, and because the joined attempts were sorted by serial (`in-order` of `proofs/Serials`).
+-- It follows because no serial was drawn twice, and because the joined attempts were sorted by serial (`in-order` of `proofs/ledger/Serials`).
 pub record AreInOrder (attempts ordered : List Attempt) : Type 0 where
   pub same : IsPermutation attempts ordered
   pub serials : map (λ a. a.serial) ordered ≡ range_with_len 1 (length ordered)
