@@ -9,13 +9,13 @@ use mh_astype::{invoke_exact, invoke_generic};
 use mh_base::NoMemory;
 use mh_handle::{Answer, Handle, HandleError, Work};
 use mh_leaves::Leaves;
-use mh_steps::call_typed;
+use mh_steps::{Broken, call_typed};
 use mh_values::{Items, MethodTy, are_typed};
 use std::alloc::Global;
 use std::sync::Wait;
 
 /// A way to call a handle on arguments of its type.
-#[derive(Clone, Copy)]
+#[derive(Clone, Copy, Debug)]
 pub(crate) enum Way {
     /// Twice in one machine, as `call_typed` does; the second call answers.
     Twice,
@@ -87,15 +87,15 @@ fn call_generic<'t, R: Wait>(
     Ok(invoke_generic(w, rt, handle, &call, args, 0)?)
 }
 
-/// What a call answers. If arguments do not have the types of the handle's parameters, the answer
-/// is lack of memory.
+/// What a call answers. The arguments have the types of the handle's parameters, or they are a
+/// broken fixture.
 pub(crate) fn call<'t, R: Wait>(
     w: &mut Work<'_, 't>,
     rt: &R,
     handle: &Handle<'t>,
     way: Way,
     args: &Items,
-) -> Result<Answer, HandleError>
+) -> Result<Answer, Broken>
     requires ready { IsReady w.old 1 }
     requires stands { StandsForSome (leaves_of w.old) handle.now }
     ensures goes_on { GoesOn 1 w.old w.new }
@@ -107,13 +107,13 @@ pub(crate) fn call<'t, R: Wait>(
         handle.ty().params.as_slice(),
         leaves.classes(),
     ) {
-        return Err(HandleError::NoMemory);
+        return Err(Broken::Fixture("arguments of other types than the parameters"));
     }
     match way {
         Way::Twice => Ok(call_typed(alloc, handle, leaves, args)?),
         Way::Own => Ok(call_own(alloc, handle, leaves, args)?),
         Way::Edited => Ok(call_edited(alloc, handle, leaves, args)?),
         Way::Exact => Ok(call_exact(alloc, handle, leaves, args)?),
-        Way::Generic => call_generic(w, rt, handle, args),
+        Way::Generic => Ok(call_generic(w, rt, handle, args)?),
     }
 }

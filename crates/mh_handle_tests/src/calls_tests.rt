@@ -1,9 +1,7 @@
 use crate::calls::Way;
 use crate::trees::{Call, Came, Making, came_of};
-use mh_base::NoMemory;
-use mh_handle::Answer;
 use mh_leaves::read_manifest;
-use mh_steps::{MANIFEST, Root, SUB, Step};
+use mh_steps::{Broken, MANIFEST, Root, SUB, Step};
 use mh_values::{Num, Outcome, Value};
 use std::alloc::Global;
 use std::sync::Wait;
@@ -19,22 +17,19 @@ fn int_of(outcome: &Outcome) -> Option<i32> {
     }
 }
 
-/// The int that is answered, if one is, and how many leaves were called, by a form of how many keys.
-fn parts_of(answer: &Answer) -> (Option<i32>, usize, u32) {
-    (
-        int_of(answer.outcome()),
-        answer.calls().len(),
-        answer.keys(),
-    )
+/// The int that is answered, if one is, by a form of how many keys, how many leaves were called, and
+/// how many types are held then.
+#[derive(Clone, Copy, Debug, PartialEq, Eq)]
+struct Parts {
+    int: Option<i32>,
+    keys: u32,
+    calls: usize,
+    types: u32,
 }
 
-/// What a subtraction whose second parameter is bound to 10 answers on 1, if no type is held then.
-fn difference<R: Wait>(
-    rt: &R,
-    alloc: Global,
-    way: Way,
-) -> Result<Option<(Option<i32>, usize, u32)>, NoMemory> {
-    let leaves = read_manifest(alloc, MANIFEST).map_err(|_| NoMemory)?;
+/// What a subtraction whose second parameter is bound to 10 answers on 1.
+fn difference<R: Wait>(rt: &R, alloc: Global, way: Way) -> Result<Parts, Broken> {
+    let leaves = read_manifest(alloc, MANIFEST)?;
     let making = Making {
         root: Root::Leaf(SUB),
         steps: &BOUND,
@@ -44,18 +39,32 @@ fn difference<R: Wait>(
         arguments: &["i:1"],
     };
     let Came { answer, types } = came_of(rt, alloc, &leaves, &making, &by)?;
-    if types != 0 {
-        return Ok(None);
-    }
-    Ok(answer.ok().map(|answer| parts_of(&answer)))
+    let answer = answer?;
+    Ok(Parts {
+        int: int_of(answer.outcome()),
+        keys: answer.keys(),
+        calls: answer.calls().len(),
+        types,
+    })
 }
 
 #[test]
 fn each_way_to_call_a_handle_answers_the_same(rt: HostRuntime) -> Result<(), Fail> {
     let alloc = rt.alloc();
+    let own = Parts {
+        int: Some(-9),
+        keys: 2,
+        calls: 1,
+        types: 0,
+    };
     for way in [Way::Twice, Way::Own, Way::Edited, Way::Exact] {
-        assert!(rt; difference(&rt, alloc, way)? == Some((Some(-9), 1, 2)));
+        assert_eq!(rt; difference(&rt, alloc, way)?, own, "{way:?}");
     }
-    assert!(rt; difference(&rt, alloc, Way::Generic)? == Some((None, 1, 3)));
+    let generic = Parts {
+        int: None,
+        keys: 3,
+        ..own
+    };
+    assert_eq!(rt; difference(&rt, alloc, Way::Generic)?, generic);
     Ok(())
 }

@@ -2,7 +2,6 @@ ghost use Rattle.std.specs.Prelude.{◌≡◌, ◌≤◌};
 ghost use Rattle.mh_handle.specs.Passes.{IsPassOf};
 ghost use Rattle.mh_handle.specs.Works.{most_held};
 
-use mh_base::NoMemory;
 use mh_handle::{Answer, Form, FormPass, FormTable, Handle, Work, leaf};
 use mh_intern::{TypeSeat, TypeTable};
 use mh_leaves::{Leaves, read_manifest};
@@ -80,7 +79,7 @@ fn sent<R: Threads>(rt: &R, handle: Handle<'_>) -> (u64, u64) {
 #[test]
 fn handles_and_forms_go_to_other_threads(rt: HostRuntime) -> Result<(), Fail> {
     let alloc = rt.alloc();
-    let leaves = read_manifest(alloc, ONE_LEAF).map_err(|_| NoMemory)?;
+    let leaves = read_manifest(alloc, ONE_LEAF)?;
     let (types, mut seat) = TypeTable::new(alloc)?;
     let (forms, form_seat) = FormTable::new(alloc)?;
     let mut pass = forms.first_pass(alloc, form_seat)?;
@@ -90,7 +89,8 @@ fn handles_and_forms_go_to_other_threads(rt: HostRuntime) -> Result<(), Fail> {
         leaves: &leaves,
     };
     let handle = first_leaf(&rt, alloc, shared, &mut pass, &mut seat);
-    assert!(rt; handle.map(|handle| sent(&rt, handle)) == Some((1, 1)));
+    let numbers = handle.map(|handle| sent(&rt, handle));
+    assert_eq!(rt; numbers, Some((1, 1)));
     Ok(())
 }
 
@@ -121,7 +121,7 @@ fn made_beside<'t, R: Threads + Wait + Sync>(
 #[test]
 fn threads_share_a_table_and_a_pass_goes_to_one(rt: HostRuntime) -> Result<(), Fail> {
     let alloc = rt.alloc();
-    let leaves = read_manifest(alloc, ONE_LEAF).map_err(|_| NoMemory)?;
+    let leaves = read_manifest(alloc, ONE_LEAF)?;
     let (types, mut seat) = TypeTable::new(alloc)?;
     let (forms, form_seat) = FormTable::new(alloc)?;
     let pass = forms.first_pass(alloc, form_seat)?;
@@ -131,7 +131,8 @@ fn threads_share_a_table_and_a_pass_goes_to_one(rt: HostRuntime) -> Result<(), F
         leaves: &leaves,
     };
     let other = types.split(&mut seat, 1 << 32);
-    assert!(rt; made_beside(&rt, alloc, shared, pass, other) == (0, Some(1)));
+    let numbers = made_beside(&rt, alloc, shared, pass, other);
+    assert_eq!(rt; numbers, (0, Some(1)));
     Ok(())
 }
 
@@ -147,6 +148,6 @@ fn answered_beside<R: Threads>(rt: &R, alloc: Global) -> usize {
 
 #[test]
 fn answers_come_from_other_threads(rt: HostRuntime) -> Result<(), Fail> {
-    assert!(rt; answered_beside(&rt, rt.alloc()) == 0);
+    assert_eq!(rt; answered_beside(&rt, rt.alloc()), 0);
     Ok(())
 }

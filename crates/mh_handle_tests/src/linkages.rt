@@ -106,7 +106,7 @@ fn put_and_found<R: Threads + Wait>(
 #[test]
 fn linkages_lie_in_a_chain_that_threads_share(rt: HostRuntime) -> Result<(), Fail> {
     let alloc = rt.alloc();
-    let leaves = read_manifest(alloc, ONE_LEAF).map_err(|_| NoMemory)?;
+    let leaves = read_manifest(alloc, ONE_LEAF)?;
     let (types, mut seat) = TypeTable::new(alloc)?;
     let (forms, form_seat) = FormTable::new(alloc)?;
     let mut pass = forms.first_pass(alloc, form_seat)?;
@@ -116,8 +116,8 @@ fn linkages_lie_in_a_chain_that_threads_share(rt: HostRuntime) -> Result<(), Fai
         leaves: &leaves,
     };
     let Some(target) = first_leaf(&rt, alloc, shared, &mut pass, &mut seat) else {
-        return Ok(());
+        return Err("no handle of the first leaf".into());
     };
-    assert!(rt; put_and_found(&rt, alloc, target)? == Some((1, 1)));
+    assert_eq!(rt; put_and_found(&rt, alloc, target)?, Some((1, 1)));
     Ok(())
 }

@@ -121,20 +121,14 @@ fn beside<'t, R: Threads + Wait + Sync>(
     })
 }
 
-/// Whether two passes and the joined one have the same numbers.
-fn do_agree(numbers: &Numbers) -> bool {
-    numbers.one.as_slice() == numbers.two.as_slice()
-        && numbers.one.as_slice() == numbers.joined.as_slice()
-}
-
-/// Whether no number is there twice.
-fn do_differ(numbers: &[u64]) -> bool {
+/// The first number that is there twice.
+fn first_twice(numbers: &[u64]) -> Option<u64> {
     for (at, number) in numbers.iter().enumerate() {
         if numbers[..at].contains(number) {
-            return false;
+            return Some(*number);
         }
     }
-    true
+    None
 }
 
 /// The numbers that two passes have for forms of a new table.
@@ -147,8 +141,9 @@ fn edited_in_turn<R: Wait>(rt: &R, alloc: Global) -> Result<Numbers, EditError> 
 
 #[test]
 fn a_pass_finds_what_another_one_has_put(rt: HostRuntime) -> Result<(), Fail> {
-    let numbers = edited_in_turn(&rt, rt.alloc()).map_err(|_| NoMemory)?;
-    assert!(rt; do_agree(&numbers));
+    let numbers = edited_in_turn(&rt, rt.alloc())?;
+    assert_eq!(rt; numbers.one.as_slice(), numbers.two.as_slice());
+    assert_eq!(rt; numbers.one.as_slice(), numbers.joined.as_slice());
     assert_eq!(rt; numbers.asked, 1 + EDITS);
     // The form that is edited has the number 1, and those made of it 2 to 201.
     assert_eq!(rt; numbers.next, 202);
@@ -165,9 +160,10 @@ fn edited_beside<R: Threads + Wait + Sync>(rt: &R, alloc: Global) -> Result<Numb
 
 #[test]
 fn two_threads_that_edit_by_the_same_keys_have_the_same_forms(rt: HostRuntime) -> Result<(), Fail> {
-    let numbers = edited_beside(&rt, rt.alloc()).map_err(|_| NoMemory)?;
-    assert!(rt; do_agree(&numbers));
-    assert!(rt; do_differ(numbers.joined.as_slice()));
+    let numbers = edited_beside(&rt, rt.alloc())?;
+    assert_eq!(rt; numbers.one.as_slice(), numbers.two.as_slice());
+    assert_eq!(rt; numbers.one.as_slice(), numbers.joined.as_slice());
+    assert_eq!(rt; first_twice(numbers.joined.as_slice()), None);
     assert_eq!(rt; numbers.asked, 1 + EDITS);
     // A number that a thread drew for a form that the other had put first is no form's.
     assert!(rt; (202..=402).contains(&numbers.next), "{}", numbers.next);

@@ -7,6 +7,7 @@ ghost use Rattle.mh_handle_tests.specs.Lanes.{CanRun, HasRun};
 use crate::edits::{more_ints, root};
 use mh_base::{NoMemory, Seq};
 use mh_handle::{EditError, FormPass, FormTable};
+use mh_steps::Broken;
 use mh_threads::{Task, run_each};
 use rand_core::utils::NextWord;
 use rand_pcg::Pcg32;
@@ -25,14 +26,14 @@ const KINDS: u32 = 8;
 
 /// A recipe of the set: a leaf's root that takes this many ints, and then this many more first of
 /// all.
-#[derive(Drop, Clone, Copy)]
+#[derive(Drop, Clone, Copy, Debug)]
 struct Recipe {
     ints: u32,
     more: u32,
 }
 
 /// The numbers that a pass has for the root of a recipe and for its form.
-#[derive(Drop)]
+#[derive(Debug, Drop)]
 struct Edited {
     recipe: Recipe,
     root: u64,
@@ -179,7 +180,7 @@ fn joined<'t>(
     table: &'t FormTable,
     pass: &mut FormPass<'t>,
     lanes: Vec<Lane<'t>>,
-) -> Result<Seq<Edited>, NoMemory>
+) -> Result<Seq<Edited>, Broken>
     requires pass { IsPassOf table.now pass.old }
     requires lanes { All (λ l. IsPassOf table.now l.pass) lanes.items }
     ensures table { pass.new.table ≡ pass.old.table }
@@ -193,7 +194,7 @@ fn joined<'t>(
             edited,
         } = lane;
         table.join(pass, other)?;
-        all.append(edited.ok_or(NoMemory)?)?;
+        all.append(edited.ok_or(Broken::Fixture("a thread that made no forms"))?)?;
     }
     Ok(all)
 }
@@ -214,7 +215,7 @@ fn race<'t, R: Threads + Wait + Sync>(
     table: &'t FormTable,
     mut pass: FormPass<'t>,
     round: u64,
-) -> Result<Round, EditError>
+) -> Result<Round, Broken>
     requires pass { IsPassOf table.now pass }
     requires room { 8 * split_room + 128 < pass.seat.room }
 {
@@ -230,11 +231,7 @@ fn race<'t, R: Threads + Wait + Sync>(
 }
 
 /// A round over a new table.
-fn race_anew<R: Threads + Wait + Sync>(
-    rt: &R,
-    alloc: Global,
-    round: u64,
-) -> Result<Round, EditError> {
+fn race_anew<R: Threads + Wait + Sync>(rt: &R, alloc: Global, round: u64) -> Result<Round, Broken> {
     let (table, seat) = FormTable::new(alloc)?;
     let pass = table.first_pass(alloc, seat)?;
     race(rt, alloc, &table, pass, round)
@@ -247,25 +244,26 @@ fn does_agree(one: &Edited, other: &Edited) -> bool {
             && (one.recipe.more != other.recipe.more || one.form == other.form)
 }
 
-/// Whether the threads have the numbers that the joined pass has.
-fn do_agree(round: &Round) -> bool {
+/// What a thread has made with other numbers than the joined pass has, and what that one has made.
+fn first_apart(round: &Round) -> Option<(&Edited, &Edited)> {
     for one in round.threads.as_slice() {
         for other in round.joined.as_slice() {
             if !does_agree(one, other) {
-                return false;
+                return Some((one, other));
             }
         }
     }
-    true
+    None
 }
 
 #[test]
 fn threads_that_edit_at_random_have_the_same_forms(rt: HostRuntime) -> Result<(), Fail> {
     let alloc = rt.alloc();
     for round in 0..ROUNDS {
-        let round = race_anew(&rt, alloc, round).map_err(|_| NoMemory)?;
+        let round = race_anew(&rt, alloc, round)?;
         assert_eq!(rt; round.threads.len(), 800);
-        assert!(rt; do_agree(&round));
+        let apart = first_apart(&round);
+        assert!(rt; apart.is_none(), "{apart:?}");
         // 8 roots, and 8 forms of each.
         assert_eq!(rt; round.asked, 72);
     }

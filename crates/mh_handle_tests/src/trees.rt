@@ -4,16 +4,15 @@ ghost use Rattle.std.specs.Prelude.{◌≡◌, ◌≤◌, [], length, IfOk, IsTr
 ghost use Rattle.mh_seats.specs.Room.{limit};
 ghost use Rattle.mh_intern.specs.Views.{new_seat};
 ghost use Rattle.mh_handle.specs.Passes.{seat_at};
-ghost use Rattle.mh_handle.specs.Stands.{StandsForSome};
-ghost use Rattle.mh_handle.specs.Works.{GoesOn, IsReady, leaves_of};
+ghost use Rattle.mh_handle.specs.Works.{GoesOn, IsReady};
 ghost use Rattle.mh_steps.specs.AnyTypes.{ExchangesAny};
 
 use crate::calls::{Way, call};
-use mh_base::NoMemory;
-use mh_handle::{Answer, FormTable, Handle, HandleError, Work};
+use mh_handle::{Answer, FormTable, HandleError, Work};
 use mh_intern::{TypeSeat, TypeTable};
 use mh_leaves::Leaves;
-use mh_steps::{Root, Start, Step, items_of, made};
+use mh_steps::{Broken, Root, Start, Step, check, items_of, made};
+use mh_values::Items;
 use std::alloc::Global;
 use std::sync::Wait;
 
@@ -37,34 +36,20 @@ pub(crate) struct Call<'a> {
     pub(crate) arguments: &'a [&'a str],
 }
 
-fn answer_by<'t, R: Wait>(
-    w: &mut Work<'_, 't>,
-    rt: &R,
-    handle: &Handle<'t>,
-    by: &Call<'_>,
-) -> Result<Answer, HandleError>
-    requires ready { IsReady w.old 1 }
-    requires stands { StandsForSome (leaves_of w.old) handle.now }
-    ensures goes_on { GoesOn 1 w.old w.new }
-    ensures seat { w.new.seat.now ≡ w.old.seat.now }
-{
-    let args = items_of(w.alloc, by.arguments, w.leaves.classes())?;
-    call(w, rt, handle, by.way, &args)
-}
-
 fn answer_on<'t, R: Wait>(
     w: &mut Work<'_, 't>,
     rt: &R,
     making: &Making,
-    by: &Call<'_>,
-) -> Result<Answer, HandleError>
+    way: Way,
+    args: &Items,
+) -> Result<Answer, Broken>
     requires ready { IsReady w.old 220 }
     requires few { length making.now.steps.now ≤ 100 }
     ensures goes_on { GoesOn 220 w.old w.new }
     ensures types { ExchangesAny [] [] w.old.seat.now w.new.seat.now }
 {
     let handle = made(w, rt, making.root, making.steps)?;
-    let answer = answer_by(w, rt, &handle, by);
+    let answer = call(w, rt, &handle, way, args);
     handle.give_back(w);
     answer
 }
@@ -74,8 +59,9 @@ fn answer_at<R: Wait>(
     start: Start<'_>,
     held: &mut TypeSeat,
     making: &Making,
-    by: &Call<'_>,
-) -> Result<Answer, HandleError>
+    way: Way,
+    args: &Items,
+) -> Result<Answer, Broken>
     requires first { start.seat ≡ seat_at start.table.now 0 }
     requires held { held.old ≡ new_seat start.types.now limit }
     requires few { length making.now.steps.now ≤ 100 }
@@ -97,7 +83,7 @@ fn answer_at<R: Wait>(
         pass: &mut pass,
         leaves,
     };
-    let answer = answer_on(&mut w, rt, making, by);
+    let answer = answer_on(&mut w, rt, making, way, args);
     let Work {
         alloc: _,
         types: _,
@@ -124,10 +110,12 @@ pub(crate) fn came_of<R: Wait>(
     leaves: &Leaves,
     making: &Making,
     by: &Call<'_>,
-) -> Result<Came, NoMemory> {
+) -> Result<Came, Broken> {
     if !has_few_steps(making) {
-        return Err(NoMemory);
+        return Err(Broken::Fixture("more than 100 steps"));
     }
+    check(alloc, leaves, making.root, making.steps)?;
+    let args = items_of(alloc, by.arguments, leaves.classes())?;
     let (types, mut held) = TypeTable::new(alloc)?;
     let (table, seat) = FormTable::new(alloc)?;
     let start = Start {
@@ -137,7 +125,11 @@ pub(crate) fn came_of<R: Wait>(
         types: &types,
         leaves,
     };
-    let answer = answer_at(rt, start, &mut held, making, by);
+    let answer = match answer_at(rt, start, &mut held, making, by.way, &args) {
+        Ok(answer) => Ok(answer),
+        Err(Broken::Handle(error)) => Err(error),
+        Err(broken) => return Err(broken),
+    };
     Ok(Came {
         answer,
         types: types.close(held),

@@ -1,21 +1,15 @@
 use crate::calls::Way;
 use crate::trees::{Call, Making, came_of};
-use mh_base::NoMemory;
-use mh_handle::HandleError;
-use mh_leaves::{Leaves, read_manifest};
+use mh_handle::{Answer, HandleError};
+use mh_leaves::read_manifest;
 use mh_steps::{
-    ADD, ARR, DIV, FAIL, FIN, Joined, LESS, MANIFEST, NOTHING, Root, SAME, SAW, SUB, Step, TEXT,
-    TICK, Typed,
+    ADD, ARR, Broken, DIV, FAIL, FIN, Joined, LESS, MANIFEST, NOTHING, Root, SAME, SAW, SUB, Step,
+    TEXT, TICK, Typed,
 };
 use mh_values::ClassId;
 use std::alloc::Global;
 use std::sync::Wait;
 use std::test::Fail;
-
-/// The leaves of the tests.
-fn tree_leaves(alloc: Global) -> Result<Leaves, NoMemory> {
-    read_manifest(alloc, MANIFEST).map_err(|_| NoMemory)
-}
 
 /// A handle and the arguments of a call.
 struct Case {
@@ -294,7 +288,7 @@ static LOOPS: [Case; 8] = [
             root: Root::Counted("I:5", ADD),
             steps: &[Step::Typed("(I)V", Typed::Drop(0)), Step::Doubled],
         },
-        arguments: &[],
+        arguments: &["i:1"],
     },
     Case {
         name: "the last of two cases",
@@ -447,32 +441,33 @@ static PARTS: [Case; 7] = [
     },
 ];
 
-/// The name of the first case after which a type is held still.
+/// The name of the first case after which types are held still, and how many.
 fn first_holding<R: Wait>(
     rt: &R,
     alloc: Global,
     cases: &[Case],
-) -> Result<Option<&'static str>, NoMemory> {
-    let leaves = tree_leaves(alloc)?;
+) -> Result<Option<(&'static str, u32)>, Broken> {
+    let leaves = read_manifest(alloc, MANIFEST)?;
     for case in cases {
         let by = Call {
             way: Way::Twice,
             arguments: case.arguments,
         };
-        if came_of(rt, alloc, &leaves, &case.making, &by)?.types != 0 {
-            return Ok(Some(case.name));
+        let types = came_of(rt, alloc, &leaves, &case.making, &by)?.types;
+        if types != 0 {
+            return Ok(Some((case.name, types)));
         }
     }
     Ok(None)
 }
 
-/// The name of the first case that no rule refuses.
+/// The name of the first case that no rule refuses, and its answer.
 fn first_accepted<R: Wait>(
     rt: &R,
     alloc: Global,
     cases: &[Case],
-) -> Result<Option<&'static str>, NoMemory> {
-    let leaves = tree_leaves(alloc)?;
+) -> Result<Option<(&'static str, Result<Answer, HandleError>)>, Broken> {
+    let leaves = read_manifest(alloc, MANIFEST)?;
     for case in cases {
         let by = Call {
             way: Way::Twice,
@@ -480,7 +475,7 @@ fn first_accepted<R: Wait>(
         };
         let came = came_of(rt, alloc, &leaves, &case.making, &by)?;
         if !matches!(came.answer, Err(HandleError::Refused(_))) {
-            return Ok(Some(case.name));
+            return Ok(Some((case.name, came.answer)));
         }
     }
     Ok(None)
@@ -488,10 +483,8 @@ fn first_accepted<R: Wait>(
 
 #[test]
 fn a_switch_has_1_to_16_cases(rt: HostRuntime) -> Result<(), Fail> {
-    assert_eq!(rt;
-        first_accepted(&rt, rt.alloc(), &TOO_FEW_OR_MANY_CASES)?,
-        None
-    );
+    let accepted = first_accepted(&rt, rt.alloc(), &TOO_FEW_OR_MANY_CASES)?;
+    assert!(rt; accepted.is_none(), "{accepted:?}");
     Ok(())
 }
 

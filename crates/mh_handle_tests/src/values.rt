@@ -70,7 +70,7 @@ fn values_go_to_other_threads(rt: HostRuntime) -> Result<(), Fail> {
     for (name, value, want) in shared_values(alloc)? {
         let copy = value.copy(alloc)?;
         let counts = thread::join(&rt, move || count(&value), move || count(&copy));
-        assert!(rt; counts == (want, want), "{name}");
+        assert_eq!(rt; counts, (want, want), "{name}");
     }
     Ok(())
 }
@@ -94,7 +94,7 @@ fn fields_go_to_other_threads(rt: HostRuntime) -> Result<(), Fail> {
             move || count_of_field(&field),
             move || count_of_field(&copy),
         );
-        assert!(rt; counts == (want, want), "{name}");
+        assert_eq!(rt; counts, (want, want), "{name}");
     }
     Ok(())
 }
