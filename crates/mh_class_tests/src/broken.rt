@@ -1,11 +1,12 @@
+use crate::faults::{Answer, first_fault};
 use crate::files::{all_tags, made, made_site};
 use Change::{Append, Cut, Put};
 use File::{AllTags, Made, MadeSite, NoRoom};
+use mh_base::NoMemory;
 use mh_classfile::ClassKind::{
     BadBootstraps, BadCode, BadDescriptor, BadIndex, BadMagic, BadTag, BadText, BadVersion,
     TooManySites, Trailing, Truncated, WrongKind,
 };
-use mh_classfile::{ClassError, ClassKind, read};
 use std::alloc::{AllocError, Global};
 use std::test::*;
 
@@ -32,9 +33,6 @@ enum Change {
     /// These bytes stand after the last.
     Append(&'static [u8]),
 }
-
-/// The kind and the place of a fault, or none of a file that is read.
-type Answer = Option<(ClassKind, usize)>;
 
 /// A file with changes, and what reading it answers.
 struct Row {
@@ -435,25 +433,17 @@ fn changed(alloc: Global, file: &[u8], changes: &[Change]) -> Result<Vec<u8>, Al
     Ok(bytes)
 }
 
-/// Whether reading the bytes gives this answer.
-fn answers(alloc: Global, bytes: &[u8], room: u32, answer: Answer) -> bool {
-    match read(alloc, bytes, room) {
-        Ok(_) => answer.is_none(),
-        Err(ClassError::Fault(fault)) => answer == Some((fault.kind, fault.at)),
-        Err(ClassError::NoMemory) => false,
-    }
-}
-
-fn holds(alloc: Global, row: &Row) -> Result<bool, AllocError> {
+/// What reading the file of a row answers.
+fn came(alloc: Global, row: &Row) -> Result<Answer, NoMemory> {
     let (file, room) = base(row.file);
     let bytes = changed(alloc, file, row.changes)?;
-    Ok(answers(alloc, &bytes, room, row.answer))
+    first_fault(alloc, &bytes, room)
 }
 
 #[test]
 fn made_files_with_changes(rt: HostRuntime) -> Result<(), Fail> {
     for row in &MADE_ROWS {
-        assert!(rt; holds(rt.alloc(), row)?, "{}", row.name);
+        assert_eq!(rt; came(rt.alloc(), row)?, row.answer, "{}", row.name);
     }
     Ok(())
 }
@@ -461,7 +451,7 @@ fn made_files_with_changes(rt: HostRuntime) -> Result<(), Fail> {
 #[test]
 fn constants_of_each_tag_with_changes(rt: HostRuntime) -> Result<(), Fail> {
     for row in &TAG_ROWS {
-        assert!(rt; holds(rt.alloc(), row)?, "{}", row.name);
+        assert_eq!(rt; came(rt.alloc(), row)?, row.answer, "{}", row.name);
     }
     Ok(())
 }

@@ -1,6 +1,6 @@
+use crate::faults::first_fault;
 use crate::files::{made, made_site};
-use mh_classfile::{ClassError, ClassKind, read};
-use std::alloc::Global;
+use mh_classfile::ClassKind;
 use std::test::*;
 
 /// Where the numbers, texts and contents of [`made`] begin.
@@ -27,31 +27,28 @@ fn last_part(parts: &[usize], end: usize) -> usize {
     last
 }
 
-/// Whether a file cut to this length is refused at its last part.
-fn is_cut(alloc: Global, file: &[u8], len: usize, parts: &[usize]) -> bool {
-    let front = file.get(..len).unwrap_or(file);
-    match read(alloc, front, 1) {
-        Err(ClassError::Fault(fault)) => {
-            fault.kind == ClassKind::Truncated && fault.at == last_part(parts, len)
-        }
-        _ => false,
-    }
+/// As much of a file as this many bytes.
+fn front(file: &[u8], len: usize) -> &[u8] {
+    file.get(..len).unwrap_or(file)
 }
 
 #[test]
-fn each_cut_of_a_file_without_a_site(rt: HostRuntime) {
+fn each_cut_of_a_file_without_a_site(rt: HostRuntime) -> Result<(), Fail> {
     for len in 0..made().len() {
-        assert!(rt; is_cut(rt.alloc(), made(), len, &MADE_PARTS), "{len} bytes");
+        let fault = first_fault(rt.alloc(), front(made(), len), 1)?;
+        let wanted = Some((ClassKind::Truncated, last_part(&MADE_PARTS, len)));
+        assert_eq!(rt; fault, wanted, "{len} bytes");
     }
+    Ok(())
 }
 
 /// As far as to byte 222 the two files differ in the pool's count alone.
 #[test]
-fn each_cut_of_a_file_with_a_site(rt: HostRuntime) {
+fn each_cut_of_a_file_with_a_site(rt: HostRuntime) -> Result<(), Fail> {
     for len in 222..made_site().len() {
-        assert!(rt;
-            is_cut(rt.alloc(), made_site(), len, &SITE_PARTS),
-            "{len} bytes"
-        );
+        let fault = first_fault(rt.alloc(), front(made_site(), len), 1)?;
+        let wanted = Some((ClassKind::Truncated, last_part(&SITE_PARTS, len)));
+        assert_eq!(rt; fault, wanted, "{len} bytes");
     }
+    Ok(())
 }

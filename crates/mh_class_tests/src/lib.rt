@@ -6,6 +6,8 @@
 mod broken;
 #[cfg(test)]
 mod cuts;
+#[cfg(test)]
+mod faults;
 pub mod files;
 #[cfg(test)]
 mod linked_calls;
@@ -22,3 +24,5 @@ mod reader;
 pub mod sites;
 #[cfg(test)]
 mod texts;
+#[cfg(test)]
+mod untried;

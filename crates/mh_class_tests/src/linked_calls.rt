@@ -10,6 +10,7 @@ ghost use Rattle.mh_attempt.specs.Asked.{attempt_draws};
 ghost use Rattle.mh_steps.specs.AnyTypes.{ExchangesAny};
 
 use crate::linked_files::{Constants, LINKED, Site, class_file};
+use crate::untried::Untried;
 use mh_attempt::{Linkage, Linked, WorkError, attempt};
 use mh_base::NoMemory;
 use mh_classfile::read;
@@ -17,13 +18,14 @@ use mh_handle::{Answer, FormTable, Work};
 use mh_intern::{TypeSeat, TypeTable};
 use mh_jobs::{Job, Run, job_of};
 use mh_leaves::{Leaves, read_manifest};
-use mh_script::{Scripts, read_scripts};
-use mh_steps::{MANIFEST, Start, items_of};
+use mh_script::{ScriptError, Scripts, read_scripts};
+use mh_steps::{Broken, MANIFEST, Start, items_of};
 use mh_texts::{show_exc, show_value};
-use mh_values::{Classes, Exc, Outcome, are_typed};
+use mh_values::{Classes, Exc, Items, Outcome, are_typed};
 use std::alloc::Global;
 use std::marker::Brand;
 use std::sync::Wait;
+use std::test::Fail;
 
 /// A call site, the lines of the script that links it, the arguments of a call, and what is
 /// expected. That is how the call ends, with the leaves that it calls and the number of keys of the
@@ -46,9 +48,9 @@ pub(crate) struct Attempt {
 
 /// The number of an attempt, and the arguments of a call of what it links.
 #[derive(Clone, Copy)]
-struct Turn {
+struct Turn<'a> {
     serial: u64,
-    arguments: &'static [&'static str],
+    args: &'a Items,
 }
 
 /// What comes of an attempt, and how many types are held once its linkage was given back.
@@ -59,12 +61,21 @@ struct Came {
 }
 
 /// The script `made/Boot.link` of these lines.
-fn scripts_of(alloc: Global, lines: &str) -> Result<Scripts, NoMemory> {
+fn scripts_of(alloc: Global, lines: &str) -> Result<Scripts, ScriptError> {
     let file = format!(in alloc; "script made/Boot link ()V\n{lines}\nend\n")?;
-    read_scripts(alloc, file.as_bytes()).map_err(|_| NoMemory)
+    read_scripts(alloc, file.as_bytes())
 }
 
-/// The job of a site.
+/// Looks for what [`job_for`] would answer as lack of memory though there is some.
+fn check_site(alloc: Global, site: Site) -> Result<(), Untried> {
+    let file = class_file(alloc, site)?;
+    if read(alloc, &file, 1)?.sites() == 0 {
+        return Err(Untried::Broken(Broken::Fixture("a class file without a site")));
+    }
+    Ok(())
+}
+
+/// The job of a site that was checked.
 fn job_for(alloc: Global, leaves: &Leaves, scripts: &Scripts, site: Site) -> Result<Job, NoMemory>
     ensures job { IfOk result (λ job. IsJob leaves.now scripts.now job) }
     ensures site { IfOk result (λ job. job.site ≡ 0) }
@@ -113,24 +124,22 @@ fn answer_text(alloc: Global, answer: &Answer, classes: &Classes) -> Result<Vec<
     Ok(text)
 }
 
-/// How a call of a linked site ends. If arguments do not have the types that the site takes, the
-/// answer is lack of memory.
+/// How a call of a linked site ends, or why it cannot be made.
 fn call_text<J: Run>(
     alloc: Global,
     linkage: &Linkage<'_, J>,
     leaves: &Leaves,
-    arguments: &[&str],
+    args: &Items,
 ) -> Result<Vec<u8>, NoMemory>
     requires { leaves.now ≡ J.given.leaves }
 {
-    let args = items_of(alloc, arguments, leaves.classes())?;
     let Some(ty) = linkage.job().ty() else {
-        return Err(NoMemory);
+        return Ok(Vec::from_slice(alloc, b"a site without a type")?);
     };
     if !are_typed(args.as_slice(), ty.params.as_slice(), leaves.classes()) {
-        return Err(NoMemory);
+        return Ok(Vec::from_slice(alloc, b"arguments of other types than the site's")?);
     }
-    let answer = linkage.call(alloc, leaves, &args)?;
+    let answer = linkage.call(alloc, leaves, args)?;
     answer_text(alloc, &answer, leaves.classes())
 }
 
@@ -139,12 +148,12 @@ fn linkage_text<J: Run>(
     alloc: Global,
     linkage: &Linkage<'_, J>,
     leaves: &Leaves,
-    arguments: &[&str],
+    args: &Items,
 ) -> Result<Vec<u8>, NoMemory>
     requires { leaves.now ≡ J.given.leaves }
 {
     match linkage.linked() {
-        Linked::Target(_) => call_text(alloc, linkage, leaves, arguments),
+        Linked::Target(_) => call_text(alloc, linkage, leaves, args),
         Linked::Error(exc) => exc_text(alloc, b"error ", exc, leaves.classes()),
     }
 }
@@ -162,7 +171,7 @@ fn attempt_text<'t, J: Run, R: Wait>(
     rt: &R,
     scripts: &Scripts,
     job: &'t Job,
-    turn: Turn,
+    turn: Turn<'_>,
 ) -> Result<Vec<u8>, WorkError>
     requires named { slice_get J.given.jobs job.now.site ≡ Some job.now }
     requires scripts { scripts.now ≡ J.given.scripts }
@@ -177,7 +186,7 @@ fn attempt_text<'t, J: Run, R: Wait>(
     }
     let leaves = w.leaves;
     let linkage = attempt::<J, R>(w, rt, scripts, job, turn.serial)?;
-    let text = linkage_text(w.alloc, &linkage, leaves, turn.arguments);
+    let text = linkage_text(w.alloc, &linkage, leaves, turn.args);
     linkage.give_back(w);
     Ok(text?)
 }
@@ -189,7 +198,7 @@ fn named_text<'t, J: Run, R: Wait>(
     held: &mut TypeSeat,
     scripts: &Scripts,
     job: &'t Job,
-    turn: Turn,
+    turn: Turn<'_>,
 ) -> Result<Vec<u8>, WorkError>
     requires named { slice_get J.given.jobs job.now.site ≡ Some job.now }
     requires scripts { scripts.now ≡ J.given.scripts }
@@ -234,7 +243,7 @@ fn job_text<'t, R: Wait>(
     held: &mut TypeSeat,
     scripts: &Scripts,
     job: &'t Job,
-    turn: Turn,
+    turn: Turn<'_>,
 ) -> Result<Vec<u8>, WorkError>
     requires job { IsJob start.leaves.now scripts.now job.now }
     requires site { job.now.site ≡ 0 }
@@ -252,17 +261,22 @@ fn came_of<R: Wait>(
     leaves: &Leaves,
     attempt: Attempt,
     case: &Case,
-) -> Result<Came, WorkError> {
+) -> Result<Came, Untried> {
     let site = Site {
         ty: case.ty,
         argument: attempt.argument,
         ..LINKED
     };
+    if !is_serial(attempt.serial) {
+        return Err(Untried::Broken(Broken::Fixture("a number that no attempt has")));
+    }
+    let args = items_of(alloc, case.arguments, leaves.classes())?;
     let turn = Turn {
         serial: attempt.serial,
-        arguments: case.arguments,
+        args: &args,
     };
     let scripts = scripts_of(alloc, case.lines)?;
+    check_site(alloc, site)?;
     let job = job_for(alloc, leaves, &scripts, site)?;
     let (types, mut held) = TypeTable::new(alloc)?;
     let (table, seat) = FormTable::new(alloc)?;
@@ -280,18 +294,39 @@ fn came_of<R: Wait>(
     })
 }
 
-/// The name of the first case that does not end as is wanted, or after which a type is still held.
+/// A case that does not end as is wanted, or after which types are still held: its name, how it ended,
+/// and how many types are held.
+#[derive(Drop)]
+pub(crate) struct Differs {
+    name: &'static str,
+    came: Vec<u8>,
+    types: u32,
+}
+
+impl Differs {
+    pub(crate) fn told(&self) -> Fail {
+        let (name, types) = (self.name, self.types);
+        let came = str::from_utf8(&self.came).unwrap_or("?");
+        Fail::new(format_args!("{name}: {came}; types held: {types}"))
+    }
+}
+
+/// The first such case.
 pub(crate) fn first_failing<R: Wait>(
     rt: &R,
     alloc: Global,
     attempt: Attempt,
     cases: &[Case],
-) -> Result<Option<&'static str>, WorkError> {
-    let leaves = read_manifest(alloc, MANIFEST).map_err(|_| NoMemory)?;
+) -> Result<Option<Differs>, Untried> {
+    let leaves = read_manifest(alloc, MANIFEST)?;
     for case in cases {
         let came = came_of(rt, alloc, &leaves, attempt, case)?;
         if came.text.as_slice() != case.wanted.as_bytes() || came.types != 0 {
-            return Ok(Some(case.name));
+            return Ok(Some(Differs {
+                name: case.name,
+                came: came.text,
+                types: came.types,
+            }));
         }
     }
     Ok(None)

@@ -46,9 +46,9 @@ fn made_len(alloc: Global, sites: MadeSites) -> Result<usize, NoMemory>
 #[test]
 fn lengths(rt: HostRuntime) -> Result<(), Fail> {
     let alloc = rt.alloc();
-    assert!(rt; made_len(alloc, Seq::new(alloc))? == 271);
+    assert_eq!(rt; made_len(alloc, Seq::new(alloc))?, 271);
     let one = one_site(alloc, Seq::new(alloc))?;
-    assert!(rt; made_len(alloc, one)? == 319);
+    assert_eq!(rt; made_len(alloc, one)?, 319);
     Ok(())
 }
 

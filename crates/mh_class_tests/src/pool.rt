@@ -34,22 +34,28 @@ fn has_class(pool: &Pool<'_>) -> bool {
 #[test]
 fn a_pool(rt: HostRuntime) -> Result<(), Fail> {
     let mut cursor = Cursor::new(POOL);
-    let _before = u1(&mut cursor, ClassKind::Truncated).ok().ok_or("a byte")?;
-    let pool = read_pool(rt.alloc(), 9, &mut cursor).ok().ok_or("a pool")?;
-    let holds = check_pool(rt.alloc(), &pool).is_ok() && has_entries(&pool) && has_class(&pool);
-    assert!(rt; holds);
+    let _before = u1(&mut cursor, ClassKind::Truncated)?;
+    let pool = read_pool(rt.alloc(), 9, &mut cursor)?;
+    check_pool(rt.alloc(), &pool)?;
+    assert!(rt; has_entries(&pool), "{} entries", pool.len());
+    assert!(rt;
+        has_class(&pool),
+        "{:?}",
+        check_name(&pool, Kind::Class, 4, 0)
+    );
     Ok(())
 }
 
 #[test]
-fn pools_cut_short(rt: HostRuntime) {
+fn pools_cut_short(rt: HostRuntime) -> Result<(), Fail> {
     for len in 1..POOL.len() {
         if let Some(bytes) = POOL.get(..len) {
             let mut cursor = Cursor::new(bytes);
-            let before = u1(&mut cursor, ClassKind::Truncated);
-            let pool = read_pool(rt.alloc(), 9, &mut cursor);
-            let is_cut = before.is_ok() && matches!(pool, Err(ClassError::Fault(_)));
-            assert!(rt; is_cut, "{len} bytes");
+            let _before = u1(&mut cursor, ClassKind::Truncated)?;
+            let error = read_pool(rt.alloc(), 9, &mut cursor).err();
+            let is_cut = matches!(error, Some(ClassError::Fault(_)));
+            assert!(rt; is_cut, "{len} bytes: {error:?}");
         }
     }
+    Ok(())
 }

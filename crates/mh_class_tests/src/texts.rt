@@ -3,37 +3,26 @@ use mh_class_bytes::{CharsError, Cursor, Short, Text, mutf8_check};
 use std::alloc::Global;
 use std::test::*;
 
-/// Whether the bytes are refused at the place.
-fn is_bad_at(bytes: &[u8], at: usize) -> bool {
-    match mutf8_check(bytes) {
-        Ok(_) => false,
-        Err(bad) => bad.at == at,
-    }
+/// The place at which bytes are no text, if there is one.
+fn bad_at(bytes: &[u8]) -> Option<usize> {
+    mutf8_check(bytes).err().map(|bad| bad.at)
 }
 
-/// Whether the characters of the bytes are these, and they are shown so too.
-fn has_chars(alloc: Global, bytes: &[u8], expected: &[char]) -> Result<bool, CharsError> {
-    let Ok(text) = mutf8_check(bytes) else {
-        return Ok(false);
-    };
-    let chars = text.chars(alloc)?;
-    let Ok(shown) = text.shown(alloc) else {
-        return Ok(false);
-    };
-    Ok(chars.as_slice() == expected && shown.as_slice() == expected)
+/// The characters of a text, and those that are shown of it.
+fn chars_of(alloc: Global, bytes: &[u8]) -> Result<(Vec<char>, Vec<char>), Fail> {
+    let text = mutf8_check(bytes)?;
+    Ok((text.chars(alloc)?, text.shown(alloc)?))
 }
 
-/// Where a text has a half of a pair without a partner, and what is shown of it.
-fn is_lone_at(alloc: Global, bytes: &[u8], at: usize, shown: &[char]) -> Result<bool, NoMemory> {
-    let Ok(text) = mutf8_check(bytes) else {
-        return Ok(false);
+/// Where a text has a half of a pair without a partner, if it has one, and what is shown of it.
+fn lone_at(alloc: Global, bytes: &[u8]) -> Result<(Option<usize>, Vec<char>), Fail> {
+    let text = mutf8_check(bytes)?;
+    let lone = match text.chars(alloc) {
+        Ok(_) => None,
+        Err(CharsError::LoneSurrogate { at }) => Some(at),
+        Err(CharsError::NoMemory) => return Err(NoMemory.into()),
     };
-    let is_lone = match text.chars(alloc) {
-        Err(CharsError::LoneSurrogate { at: place }) => place == at,
-        _ => false,
-    };
-    let chars = text.shown(alloc)?;
-    Ok(is_lone && chars.as_slice() == shown)
+    Ok((lone, text.shown(alloc)?))
 }
 
 /// Bytes that are no text, and the place that shows it.
@@ -59,13 +48,11 @@ static NO_TEXTS: [(&[u8], usize); 16] = [
 #[test]
 fn bytes_that_are_no_text(rt: HostRuntime) {
     for (bytes, at) in &NO_TEXTS {
-        assert!(rt; is_bad_at(*bytes, *at), "{bytes:?}");
+        assert_eq!(rt; bad_at(*bytes), Some(*at), "{bytes:?}");
     }
     for first in 0xF0..=0xFE_u8 {
-        assert!(rt;
-            is_bad_at(&[b'a', first, 0x9F, 0x98, 0x80], 1),
-            "first byte {first}"
-        );
+        let at = bad_at(&[b'a', first, 0x9F, 0x98, 0x80]);
+        assert_eq!(rt; at, Some(1), "first byte {first}");
     }
 }
 
@@ -91,24 +78,28 @@ static TEXTS: [(&[u8], &[char]); 8] = [
 ];
 
 #[test]
-fn characters_of_texts(rt: HostRuntime) {
+fn characters_of_texts(rt: HostRuntime) -> Result<(), Fail> {
     for (bytes, chars) in &TEXTS {
-        let has = has_chars(rt.alloc(), *bytes, *chars);
-        assert!(rt; matches!(has, Ok(true)), "{bytes:?}");
+        let (own, shown) = chars_of(rt.alloc(), *bytes)?;
+        assert_eq!(rt; own.as_slice(), *chars, "{bytes:?}");
+        assert_eq!(rt; shown.as_slice(), *chars, "{bytes:?}");
     }
+    Ok(())
 }
 
 /// Below U+10000, except for U+0000, the spelling of a character is its UTF-8.
 #[test]
-fn characters_spelled_as_in_utf8(rt: HostRuntime) {
+fn characters_spelled_as_in_utf8(rt: HostRuntime) -> Result<(), Fail> {
     for step in 0..400_u32 {
         if let Some(char) = char::from_u32(1 + 163 * step) {
             let mut buffer = [0; 4];
             let spelling = char.encode_utf8(&mut buffer).as_bytes();
-            let has = has_chars(rt.alloc(), spelling, &[char]);
-            assert!(rt; matches!(has, Ok(true)), "{char}");
+            let (own, shown) = chars_of(rt.alloc(), spelling)?;
+            assert_eq!(rt; own.as_slice(), [char].as_slice());
+            assert_eq!(rt; shown.as_slice(), [char].as_slice());
         }
     }
+    Ok(())
 }
 
 /// Texts, the place of a half of a pair without a partner, if any, and what is shown of them.
@@ -124,11 +115,13 @@ static HALVES: [(&[u8], usize, &[char]); 4] = [
 ];
 
 #[test]
-fn halves_without_a_partner(rt: HostRuntime) {
-    for (bytes, at, shown) in &HALVES {
-        let is_lone = is_lone_at(rt.alloc(), *bytes, *at, *shown);
-        assert!(rt; matches!(is_lone, Ok(true)), "{bytes:?}");
+fn halves_without_a_partner(rt: HostRuntime) -> Result<(), Fail> {
+    for (bytes, at, wanted) in &HALVES {
+        let (lone, shown) = lone_at(rt.alloc(), *bytes)?;
+        assert_eq!(rt; lone, Some(*at), "{bytes:?}");
+        assert_eq!(rt; shown.as_slice(), *wanted, "{bytes:?}");
     }
+    Ok(())
 }
 
 /// Whether the numbers at the front are read, up to one that does not fit.
@@ -151,5 +144,11 @@ fn reads_runs(cursor: &mut Cursor<'_>) -> bool {
 #[test]
 fn numbers_and_runs(rt: HostRuntime) {
     let mut cursor = Cursor::new(&[1, 0, 2, 0, 0, 1, 0, 7, 8, 9]);
-    assert!(rt; reads_numbers(&mut cursor) && reads_runs(&mut cursor) && cursor.at() == 10);
+    assert!(rt;
+        reads_numbers(&mut cursor),
+        "numbers, up to {}",
+        cursor.at()
+    );
+    assert!(rt; reads_runs(&mut cursor), "runs, up to {}", cursor.at());
+    assert_eq!(rt; cursor.at(), 10);
 }
