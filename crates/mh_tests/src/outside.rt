@@ -34,17 +34,9 @@ fn reads_up_to_the_limit(rt: HostRuntime) -> Result<(), Fail> {
         (4, (Err(ReadWhole::TooLong), 5)),
         (usize::MAX, (Ok(5), 16_389)),
     ] {
-        assert!(rt; read_len(rt.alloc(), limit)? == want, "limit {limit}");
+        assert_eq!(rt; read_len(rt.alloc(), limit)?, want, "limit {limit}");
     }
     Ok(())
-}
-
-/// Whether a sink takes the first of two texts, and nothing of the second.
-fn takes_first(sink: &mut MemorySink) -> bool {
-    write_whole(sink, b"first").is_ok()
-        && write_whole(sink, b"second").is_err()
-        && sink.bytes.as_slice() == b"first".as_slice()
-        && sink.faults == 1
 }
 
 #[test]
@@ -56,7 +48,10 @@ fn a_failed_write_leaves_a_front_part(rt: HostRuntime) -> Result<(), Fail> {
         calls: 0,
         faults: 0,
     };
-    assert!(rt; takes_first(&mut sink));
+    let first = write_whole(&mut sink, b"first").is_ok();
+    let second = write_whole(&mut sink, b"second").is_ok();
+    assert_eq!(rt; (first, second, sink.faults), (true, false, 1));
+    assert_eq!(rt; str::from_utf8(&sink.bytes), Ok("first"));
     Ok(())
 }
 
@@ -66,14 +61,16 @@ fn honest_files_that_are_not_listed_have_no_bytes(rt: HostRuntime) {
         files: BTreeMap::new(rt.alloc()),
     };
     let len = read_whole(rt.alloc(), &mut inputs, "none", 4).map(|v| v.len());
-    assert!(rt; len == Ok(0) && write_whole(&mut HonestSink, b"taken").is_ok());
+    assert_eq!(rt; len, Ok(0));
+    assert!(rt; write_whole(&mut HonestSink, b"taken").is_ok());
 }
 
 #[test]
 fn real_files_fail_where_they_are_not_there(rt: HostRuntime) {
     let mut inputs = real_inputs(rt.alloc(), &rt);
     let mut buf = [0u8; 8];
-    assert!(rt; inputs.read("no such file", 0, &mut buf).is_err() && inputs.faults == 1);
+    let is_read = inputs.read("no such file", 0, &mut buf).is_ok();
+    assert_eq!(rt; (is_read, inputs.faults), (false, 1));
 }
 
 /// How many bytes of a real file are read with a limit, and how many reads failed.
@@ -99,7 +96,7 @@ fn real_files_are_read_up_to_the_limit(rt: HostRuntime) -> Result<(), Fail> {
         (".", 4, (Err(ReadWhole::ReadFault), 1)),
     ] {
         let found = real_len(&rt, rt.alloc(), name, limit);
-        assert!(rt; found == want, "{name} with limit {limit}: {found:?}");
+        assert_eq!(rt; found, want, "{name} with limit {limit}");
     }
     Ok(())
 }
@@ -118,9 +115,11 @@ fn a_real_file_of_several_pieces_is_read_again_from_its_front(rt: HostRuntime) -
     let other = read_whole(alloc, &mut inputs, "others", 40_000)?;
     let second = read_whole(alloc, &mut inputs, "others", 40_000)?;
     let third = read_whole(alloc, &mut inputs, "pieces", 40_000)?;
+    assert_eq!(rt; (first.len(), third.len()), (bytes.len(), bytes.len()));
     assert!(rt; first.as_slice() == bytes.as_slice() && third.as_slice() == bytes.as_slice());
-    assert!(rt; other.as_slice() == b"others".as_slice() && second.as_slice() == other.as_slice());
-    assert!(rt; inputs.faults == 0);
+    assert_eq!(rt; str::from_utf8(&other), Ok("others"));
+    assert_eq!(rt; str::from_utf8(&second), Ok("others"));
+    assert_eq!(rt; inputs.faults, 0);
     Ok(())
 }
 
@@ -130,7 +129,7 @@ fn a_real_file_is_read_from_the_middle(rt: HostRuntime) -> Result<(), Fail> {
     let mut inputs = real_inputs(rt.alloc(), &rt);
     let mut buf = [0u8; 3];
     let count = inputs.read("middle", 4, &mut buf)?;
-    assert!(rt; count == 3 && buf == [b'4', b'5', b'6']);
+    assert_eq!(rt; (count, buf), (3, [b'4', b'5', b'6']));
     Ok(())
 }
 
@@ -138,14 +137,17 @@ fn a_real_file_is_read_from_the_middle(rt: HostRuntime) -> Result<(), Fail> {
 fn a_full_device_takes_nothing(rt: HostRuntime) -> Result<(), Fail> {
     let file = OpenOptions::new().write(true).open(&rt, "/dev/full")?;
     let mut sink = WriterSink::new(file);
-    assert!(rt; write_whole(&mut sink, b"text").is_err() && sink.faults == 1);
+    let is_written = write_whole(&mut sink, b"text").is_ok();
+    assert_eq!(rt; (is_written, sink.faults), (false, 1));
     Ok(())
 }
 
 #[test]
 fn real_output_takes_a_piece(rt: HostRuntime) {
     let mut sink = real_sink(&rt);
-    assert!(rt; matches!(sink.write(b"taken\n"), Ok(1..=6)) && sink.faults == 0);
+    let taken = sink.write(b"taken\n").ok();
+    assert!(rt; matches!(taken, Some(1..=6)), "{taken:?}");
+    assert_eq!(rt; sink.faults, 0);
 }
 
 /// After how many others a thread records that goes through a gate.
@@ -169,12 +171,14 @@ fn both_recorded_after<R: Threads>(rt: &R, gate: &TestGate) -> (u64, u64) {
 #[test]
 fn a_test_gate_lets_thread_1_record_before_thread_0(rt: HostRuntime) {
     let gate = TestGate::default();
-    assert!(rt; both_recorded_after(&rt, &gate) == (1, 0) && !gate.gave_up());
+    assert_eq!(rt; both_recorded_after(&rt, &gate), (1, 0));
+    assert!(rt; !gate.gave_up());
 }
 
 #[test]
 fn a_test_gate_lets_other_threads_pass(rt: HostRuntime) {
     let gate = TestGate::default();
     let count = AtomicU64::new(0);
-    assert!(rt; recorded_after(&gate, &count, 2) == 0 && !gate.gave_up());
+    assert_eq!(rt; recorded_after(&gate, &count, 2), 0);
+    assert!(rt; !gate.gave_up());
 }

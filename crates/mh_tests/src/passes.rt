@@ -40,7 +40,7 @@ const SCRIPTS: &[u8] = b"\
 
 /// The attempt that resolved a site, the first and the second time, and how many attempts were made
 /// for both.
-#[derive(Clone, Copy, PartialEq, Eq)]
+#[derive(Clone, Copy, Debug, PartialEq, Eq)]
 struct Resolved {
     first: u64,
     then: u64,
@@ -142,20 +142,20 @@ fn jobs_of(
 
 /// The same of the call site of the class.
 fn resolved_twice<R: Wait>(rt: &R, alloc: Global, other: bool) -> Result<Resolved, Fail> {
-    let leaves = read_manifest(alloc, LEAVES).map_err(|_| NoMemory)?;
-    let scripts = read_scripts(alloc, SCRIPTS).map_err(|_| NoMemory)?;
+    let leaves = read_manifest(alloc, LEAVES)?;
+    let scripts = read_scripts(alloc, SCRIPTS)?;
     let class = class_file(alloc)?;
-    let view = read(alloc, &class, 1).map_err(|_| NoMemory)?;
+    let view = read(alloc, &class, 1)?;
     let jobs = jobs_of(alloc, &view, &scripts, &leaves)?;
     if jobs.len() != 1 {
-        return Err(Fail::from(NoMemory));
+        return Err("a class file with another number of sites than one".into());
     }
     let input = RunInput {
         leaves: &leaves,
         scripts: &scripts,
         jobs: &jobs,
     };
-    Ok(link_twice::<Brand, R>(rt, alloc, &input, other).map_err(|_| NoMemory)?)
+    Ok(link_twice::<Brand, R>(rt, alloc, &input, other)?)
 }
 
 const ONE_ATTEMPT: Resolved = Resolved {
@@ -166,12 +166,12 @@ const ONE_ATTEMPT: Resolved = Resolved {
 
 #[test]
 fn a_pass_finds_what_another_has_recorded(rt: HostRuntime) -> Result<(), Fail> {
-    assert!(rt; resolved_twice(&rt, rt.alloc(), true)? == ONE_ATTEMPT);
+    assert_eq!(rt; resolved_twice(&rt, rt.alloc(), true)?, ONE_ATTEMPT);
     Ok(())
 }
 
 #[test]
 fn a_pass_resolves_a_site_once(rt: HostRuntime) -> Result<(), Fail> {
-    assert!(rt; resolved_twice(&rt, rt.alloc(), false)? == ONE_ATTEMPT);
+    assert_eq!(rt; resolved_twice(&rt, rt.alloc(), false)?, ONE_ATTEMPT);
     Ok(())
 }

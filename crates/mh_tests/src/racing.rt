@@ -229,12 +229,12 @@ fn is_either(answer: &TopAnswer, bytes: &[u8], race: &Race) -> bool {
         || has_attempts(answer, 0, 1, 2) && bytes == by_second.as_bytes()
 }
 
-/// Whether thread 1 wins a race, and both threads have attempted the site.
-fn is_won_by_thread_1<R: Threads + Wait + Sync>(
+/// What a race that thread 1 should win gives, what it writes, and whether its gate gave up.
+fn raced<R: Threads + Wait + Sync>(
     rt: &R,
     alloc: Global,
     race: &Race,
-) -> Result<bool, Fail> {
+) -> Result<(TopAnswer, Vec<u8>, bool), Fail> {
     let gate = TestGate::default();
     let input = Input {
         sites: 1,
@@ -242,14 +242,26 @@ fn is_won_by_thread_1<R: Threads + Wait + Sync>(
         plan: "thread\nindy 0\nthread\nindy 0\n",
     };
     let (answer, bytes) = run(rt, alloc, &input, &gate)?;
-    let ended = answer.status == DONE && !gate.gave_up();
-    Ok(ended && is_either(&answer, bytes.as_slice(), race))
+    Ok((answer, bytes, gate.gave_up()))
+}
+
+/// What was written, as a text; `?` if it is none.
+fn text_of(bytes: &[u8]) -> &str {
+    str::from_utf8(bytes).unwrap_or("?")
 }
 
 #[test]
 fn what_is_recorded_first_is_what_both_threads_get(rt: HostRuntime) -> Result<(), Fail> {
     for race in &RACES {
-        assert!(rt; is_won_by_thread_1(&rt, rt.alloc(), race)?, "{}", race.name);
+        let (answer, bytes, gave_up) = raced(&rt, rt.alloc(), race)?;
+        assert_eq!(rt; (answer.status, gave_up), (DONE, false), "{}", race.name);
+        let attempts = answer.attempts.as_slice();
+        assert!(rt;
+            is_either(&answer, &bytes, race),
+            "{}: {attempts:?}, {}",
+            race.name,
+            text_of(&bytes)
+        );
     }
     Ok(())
 }
@@ -296,15 +308,27 @@ fn are_linked(attempts: &[Attempt], table: &[Option<u64>]) -> bool {
     true
 }
 
-/// Whether a run is done that links each of this many sites by one of its attempts.
-fn is_in_order(answer: &TopAnswer, sites: u8) -> bool {
+/// What is wrong with a run that should be done and link each of this many sites by one of its
+/// attempts.
+fn fault_of(answer: &TopAnswer, sites: u8) -> Option<&'static str> {
     let attempts = answer.attempts.as_slice();
     let table = answer.table.as_slice();
-    answer.status == DONE
-        && table.len() == usize::from(sites)
-        && are_numbered(attempts)
-        && are_single(attempts)
-        && are_linked(attempts, table)
+    if answer.status != DONE {
+        return Some("the status");
+    }
+    if table.len() != usize::from(sites) {
+        return Some("the number of sites");
+    }
+    if !are_numbered(attempts) {
+        return Some("the serials");
+    }
+    if !are_single(attempts) {
+        return Some("a site attempted twice by a thread");
+    }
+    if !are_linked(attempts, table) {
+        return Some("a site that no attempt has linked");
+    }
+    None
 }
 
 /// Runs that call each of their call sites.
@@ -335,7 +359,8 @@ static ALL_CALLED: [Input<'static>; 4] = [
 fn each_site_is_linked_by_one_of_its_attempts(rt: HostRuntime) -> Result<(), Fail> {
     for input in &ALL_CALLED {
         let (answer, _) = run(&rt, rt.alloc(), input, &OpenGate)?;
-        assert!(rt; is_in_order(&answer, input.sites), "{}", input.plan);
+        let fault = fault_of(&answer, input.sites);
+        assert!(rt; fault.is_none(), "{}: {fault:?} of {answer:?}", input.plan);
     }
     Ok(())
 }
@@ -343,16 +368,16 @@ fn each_site_is_linked_by_one_of_its_attempts(rt: HostRuntime) -> Result<(), Fai
 /// How many threads race for the site.
 const MOST_THREADS: usize = 64;
 
-/// Whether this many calls return, all of them the same.
-fn are_alike(text: &[u8], count: usize) -> bool {
+/// How many calls return what the first of them does that returns.
+fn count_alike(text: &[u8]) -> usize {
     let Some(first) = text
         .split(|byte| *byte == b'\n')
         .find(|line| line.starts_with(b"returns "))
     else {
-        return false;
+        return 0;
     };
     let lines = text.split(|byte| *byte == b'\n');
-    lines.filter(|line| *line == first).count() == count
+    lines.filter(|line| *line == first).count()
 }
 
 #[test]
@@ -365,7 +390,9 @@ fn all_of_64_threads_get_one_linkage(rt: HostRuntime) -> Result<(), Fail> {
         plan: plan.as_str(),
     };
     let (answer, bytes) = run(&rt, alloc, &input, &OpenGate)?;
-    assert!(rt; is_in_order(&answer, input.sites) && are_alike(&bytes, MOST_THREADS));
+    let fault = fault_of(&answer, input.sites);
+    assert!(rt; fault.is_none(), "{fault:?} of {answer:?}");
+    assert_eq!(rt; count_alike(&bytes), MOST_THREADS);
     Ok(())
 }
 
@@ -378,12 +405,21 @@ fn is_by_worker(attempt: &Attempt, threads: u32, workers: u32) -> bool {
     }
 }
 
-/// Whether a run is done of whose sites each was attempted once, by a worker.
-fn is_shared_out(answer: &TopAnswer, sites: u8, threads: u32, workers: u32) -> bool {
+/// What is wrong with a run of whose sites each should be attempted once, by a worker.
+fn fault_shared_out(
+    answer: &TopAnswer,
+    sites: u8,
+    threads: u32,
+    workers: u32,
+) -> Option<&'static str> {
     let attempts = answer.attempts.as_slice();
-    is_in_order(answer, sites)
-        && attempts.len() == usize::from(sites)
-        && attempts.iter().all(|it| is_by_worker(it, threads, workers))
+    if attempts.len() != usize::from(sites) {
+        return Some("the number of attempts");
+    }
+    if !attempts.iter().all(|it| is_by_worker(it, threads, workers)) {
+        return Some("an attempt of no worker");
+    }
+    fault_of(answer, sites)
 }
 
 /// Whether a thread makes one of two attempts, and another thread the other one.
@@ -406,9 +442,13 @@ fn two_workers_link_a_site_each(rt: HostRuntime) -> Result<(), Fail> {
     };
     let words = words_with("--prelink=2");
     let (answer, bytes) = run_words(&rt, rt.alloc(), &words, &input, &gate)?;
-    assert!(rt; is_shared_out(&answer, input.sites, 0, 2) && !gate.gave_up());
-    assert!(rt; is_by_each(answer.attempts.as_slice(), 0, 1));
-    assert!(rt; bytes.ends_with(b"attempts 2 forms 1 types 1\n"));
+    let fault = fault_shared_out(&answer, input.sites, 0, 2);
+    assert!(rt; fault.is_none(), "{fault:?} of {answer:?}");
+    assert!(rt; !gate.gave_up());
+    let attempts = answer.attempts.as_slice();
+    assert!(rt; is_by_each(attempts, 0, 1), "{attempts:?}");
+    let is_ended = bytes.ends_with(b"attempts 2 forms 1 types 1\n");
+    assert!(rt; is_ended, "{}", text_of(&bytes));
     Ok(())
 }
 
@@ -417,7 +457,8 @@ fn threads_attempt_no_site_that_workers_have_linked(rt: HostRuntime) -> Result<(
     let words = words_with("--prelink=3");
     for input in &ALL_CALLED {
         let (answer, _) = run_words(&rt, rt.alloc(), &words, input, &OpenGate)?;
-        assert!(rt; is_shared_out(&answer, input.sites, 2, 3), "{}", input.plan);
+        let fault = fault_shared_out(&answer, input.sites, 2, 3);
+        assert!(rt; fault.is_none(), "{}: {fault:?} of {answer:?}", input.plan);
     }
     Ok(())
 }
@@ -431,6 +472,7 @@ fn sixteen_workers_link_each_of_200_sites_once(rt: HostRuntime) -> Result<(), Fa
     };
     let words = words_with("--prelink=16");
     let (answer, _) = run_words(&rt, rt.alloc(), &words, &input, &OpenGate)?;
-    assert!(rt; is_shared_out(&answer, input.sites, 1, 16));
+    let fault = fault_shared_out(&answer, input.sites, 1, 16);
+    assert!(rt; fault.is_none(), "{fault:?} of {answer:?}");
     Ok(())
 }

@@ -74,6 +74,8 @@ fn is_whole_or_nothing(status: u8, sink: &MemorySink) -> bool {
 #[test]
 fn a_run_is_whole_or_writes_nothing(rt: HostRuntime) -> Result<(), Fail> {
     let (status, sink) = run(&rt, rt.alloc())?;
-    assert!(rt; is_whole_or_nothing(status, &sink));
+    let is_right = is_whole_or_nothing(status, &sink);
+    let (faults, text) = (sink.faults, str::from_utf8(&sink.bytes).unwrap_or("?"));
+    assert!(rt; is_right, "status {status}, {faults} failed writes: {text}");
     Ok(())
 }

@@ -73,40 +73,36 @@ fn written<R: Threads + Wait + Sync>(
     Ok((status, sink.bytes))
 }
 
-/// Whether such a run ends with the status of a failed write, and has written a front part.
-fn breaks_off<R: Threads + Wait + Sync>(
-    rt: &R,
-    alloc: Global,
-    row: &Text,
-    write: u64,
-) -> Result<bool, AllocError> {
-    let (status, bytes) = written(rt, alloc, row, write)?;
+/// Whether a run ends with the status of a failed write, and has written a front part.
+fn breaks_off(row: &Text, status: u8, bytes: &[u8]) -> bool {
     let text = row.text.as_bytes();
-    Ok(status == WRITE_FAILED && bytes.len() < text.len() && text.starts_with(&bytes))
+    status == WRITE_FAILED && bytes.len() < text.len() && text.starts_with(bytes)
 }
 
-/// Whether a run that makes no write of this number is as the row says.
-fn is_whole<R: Threads + Wait + Sync>(
-    rt: &R,
-    alloc: Global,
-    row: &Text,
-    write: u64,
-) -> Result<bool, AllocError> {
-    let (status, bytes) = written(rt, alloc, row, write)?;
-    Ok(status == row.status && bytes.as_slice() == row.text.as_bytes())
+/// What was written, as a text; `?` if it is none.
+fn text_of(bytes: &[u8]) -> &str {
+    str::from_utf8(bytes).unwrap_or("?")
 }
 
 #[test]
 fn each_write_fails(rt: HostRuntime) -> Result<(), Fail> {
     for row in &TEXTS {
         for write in 0..row.writes {
+            let (status, bytes) = written(&rt, rt.alloc(), row, write)?;
             assert!(rt;
-                breaks_off(&rt, rt.alloc(), row, write)?,
-                "{}, write {write}",
-                row.name
+                breaks_off(row, status, &bytes),
+                "{}, write {write}: status {status}, {}",
+                row.name,
+                text_of(&bytes)
             );
         }
-        assert!(rt; is_whole(&rt, rt.alloc(), row, row.writes)?, "{}", row.name);
+        let (status, bytes) = written(&rt, rt.alloc(), row, row.writes)?;
+        assert_eq!(rt;
+            (status, text_of(&bytes)),
+            (row.status, row.text),
+            "{}",
+            row.name
+        );
     }
     Ok(())
 }
