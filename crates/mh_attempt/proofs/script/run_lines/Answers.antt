@@ -50,19 +50,19 @@ loop-step-preserved g c =
     let i = c.loop-step.step-index in
     let within : i < length steps = search rules in
     run-next i (i + 1) steps (drop (i + 1) steps) c.step-item.result c.args.end.now c.args.registers.now c.loop-step.registers c.run_line.new.registers
-    c.args.w.now c.loop-step.w c.run_line.new.w c.in_ok-stepped.field-0 refl
+    c.args.w.now c.loop-step.w c.run_line.new.w c.in_ok-run_line.field-0 refl
     (subst (λ l. HasRun i steps l c.args.end.now c.args.registers.now c.loop-step.registers c.args.w.now c.loop-step.w)
-    (drop_item steps i c.step-item.result within c.step-item.is) c.loop-step.invariant) c.in_ok-stepped.ensures
+    (drop_item steps i c.step-item.result within c.step-item.is) c.loop-step.invariant) c.in_ok-run_line.ensures
 
-pub returns-in_err-stepped : goal.returns-in_err-stepped
-returns-in_err-stepped g c =
+pub returns-in_err-run_line : goal.returns-in_err-run_line
+returns-in_err-run_line g c =
     let steps = c.args.steps.now in
     let i = c.loop-step.step-index in
     let within : i < length steps = search rules in
     run-fails i steps (drop (i + 1) steps) c.step-item.result c.args.end.now c.args.registers.now c.loop-step.registers c.run_line.new.registers
-    c.args.w.now c.loop-step.w c.run_line.new.w c.in_err-stepped.field-0.0 c.from_residual.result c.from_residual.ensures.1 (omega (arith, within))
+    c.args.w.now c.loop-step.w c.run_line.new.w c.in_err-run_line.field-0.0 c.from_residual.result c.from_residual.ensures.1 (omega (arith, within))
     (subst (λ l. HasRun i steps l c.args.end.now c.args.registers.now c.loop-step.registers c.args.w.now c.loop-step.w)
-    (drop_item steps i c.step-item.result within c.step-item.is) c.loop-step.invariant) c.in_err-stepped.ensures
+    (drop_item steps i c.step-item.result within c.step-item.is) c.loop-step.invariant) c.in_err-run_line.ensures
 
 -- ---- the last line
 
