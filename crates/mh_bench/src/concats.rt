@@ -11,7 +11,7 @@ use mh_base::{Frozen, NoMemory, Seq};
 use mh_concat::{concat, read_recipe};
 use mh_form::Pieces;
 use mh_handle::{Handle, HandleError, Work};
-use mh_steps::{Joined, Root, Step};
+use mh_steps::{Broken, Joined, Root, Step};
 use mh_values::{ClassId, Classes, LeafId, MethodTy, Str, Ty};
 use std::alloc::Global;
 use std::sync::Wait;
@@ -111,7 +111,7 @@ fn joins<'t, R: Wait>(
     count: usize,
     length: usize,
     turns: u32,
-) -> Result<u64, HandleError>
+) -> Result<u64, Broken>
     requires ready { IsReady w.old 1 }
 {
     let leaves = w.leaves;
@@ -129,7 +129,7 @@ fn by_leaves<'t, R: Wait>(
     steps: &[Step],
     count: usize,
     turns: u32,
-) -> Result<u64, HandleError>
+) -> Result<u64, Broken>
     requires ready { IsReady w.old 219 }
     requires few { length steps.now ≤ 100 }
 {
@@ -147,7 +147,7 @@ pub(crate) fn measured<'t, R: Wait>(
     rt: &R,
     row: Row,
     turns: u32,
-) -> Result<u64, HandleError>
+) -> Result<u64, Broken>
     requires ready { IsReady w.old (2 ^ 33) }
 {
     match row {

@@ -7,7 +7,7 @@ ghost use Rattle.mh_condy_tests.specs.Built.{run_of};
 
 use mh_base::NoMemory;
 use mh_condy::{ConstPass, ConstRun, ConstTable};
-use mh_condy_tests::{Built, first_pass, ladder, resolve, wide};
+use mh_condy_tests::{Broken, Built, first_pass, ladder, resolve, wide};
 use std::alloc::Global;
 use std::marker::Brand;
 use std::sync::Wait;
@@ -24,7 +24,7 @@ pub(crate) enum Row {
 }
 
 /// Resolves the first constant on a new table, and gives the serial of the last attempt.
-fn resolved<J: ConstRun, R: Wait>(rt: &R, alloc: Global, built: &Built) -> Result<u64, NoMemory>
+fn resolved<J: ConstRun, R: Wait>(rt: &R, alloc: Global, built: &Built) -> Result<u64, Broken>
     requires run { run_of built.now ≡ J.run }
     requires are { AreResolvable J.run }
 {
@@ -35,12 +35,7 @@ fn resolved<J: ConstRun, R: Wait>(rt: &R, alloc: Global, built: &Built) -> Resul
 }
 
 /// The same this many times, each on a new table.
-fn resolved_again<R: Wait>(
-    rt: &R,
-    alloc: Global,
-    built: &Built,
-    turns: u32,
-) -> Result<u64, NoMemory>
+fn resolved_again<R: Wait>(rt: &R, alloc: Global, built: &Built, turns: u32) -> Result<u64, Broken>
     requires { AreResolvable (run_of built.now) }
 {
     let mut sum: u64 = 0;
@@ -80,12 +75,12 @@ fn split_on<J: ConstRun>(alloc: Global, built: &Built, turns: u32) -> Result<u64
 }
 
 /// Splits this many passes off the first pass of a table of 16,384 constants.
-fn passes_split(alloc: Global, turns: u32) -> Result<u64, NoMemory> {
+fn passes_split(alloc: Global, turns: u32) -> Result<u64, Broken> {
     if turns > 1024 {
-        return Err(NoMemory);
+        return Err(Broken::Fixture("more than 1,024 passes"));
     }
     let built = wide(alloc, 16_383)?;
-    split_on::<Brand>(alloc, &built, turns)
+    Ok(split_on::<Brand>(alloc, &built, turns)?)
 }
 
 /// The work of a row, this many times.
@@ -94,7 +89,7 @@ pub(crate) fn measured<R: Wait>(
     alloc: Global,
     row: Row,
     turns: u32,
-) -> Result<u64, NoMemory> {
+) -> Result<u64, Broken> {
     match row {
         Row::Ladder => resolved_again(rt, alloc, &ladder(alloc, 64)?, turns),
         Row::Wide => resolved_again(rt, alloc, &wide(alloc, 255)?, turns),

@@ -11,15 +11,18 @@ mod rows;
 mod scripts;
 mod types;
 
-use measures::{MEASURES, Measure, measured};
+use measures::{MEASURES, Measure, Unfinished, measured};
 use std::process::ExitCode;
 use std::{env, io};
 
 /// The words are not a row and a number of turns.
 const USAGE: u8 = 1;
 
-/// The row was not done to its end.
-const FAILED: u8 = 2;
+/// No memory was left.
+const NO_MEMORY: u8 = 2;
+
+/// The row was not done to its end, though memory was left, or its sum was not written.
+const FAILED: u8 = 3;
 
 // The words after the program's name.
 fn words(rt: &HostRuntime) -> io::Result<Vec<String>> {
@@ -52,13 +55,18 @@ fn request(words: &[String]) -> Option<(&str, Measure, u32)> {
 
 fn main(rt: HostRuntime) -> ExitCode {
     let Ok(words) = words(&rt) else {
-        return ExitCode::from(FAILED);
+        return ExitCode::from(NO_MEMORY);
     };
     let Some((name, measure, turns)) = request(words.as_slice()) else {
         return ExitCode::from(USAGE);
     };
-    let Ok(sum) = measured(&rt, rt.alloc(), measure, turns) else {
-        return ExitCode::from(FAILED);
+    let sum = match measured(&rt, rt.alloc(), measure, turns) {
+        Ok(sum) => sum,
+        Err(Unfinished::NoMemory) => return ExitCode::from(NO_MEMORY),
+        Err(error) => {
+            let _ = eprintln!(rt; "{name}: {error:?}");
+            return ExitCode::from(FAILED);
+        }
     };
     match println!(rt; "{name} {turns} {sum}") {
         Ok(()) => ExitCode::SUCCESS,

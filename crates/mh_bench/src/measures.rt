@@ -2,8 +2,10 @@
 
 use crate::{cells, concats, constants, forms, rows, scripts, types};
 use mh_base::NoMemory;
-use mh_handle::{EditError, HandleError};
+use mh_condy_tests::Broken as BrokenConstants;
+use mh_handle::EditError;
 use mh_intern::InternError;
+use mh_steps::Broken;
 use std::alloc::Global;
 use std::sync::Wait;
 use std::thread::Threads;
@@ -105,31 +107,47 @@ pub(crate) static MEASURES: [(&str, Measure); 36] = [
     ),
 ];
 
-/// A row was not done to its end.
-#[derive(Drop)]
-pub(crate) struct Unfinished;
+/// Why a row was not done to its end.
+#[derive(Debug, Drop)]
+pub(crate) enum Unfinished {
+    NoMemory,
+    Handles(Broken),
+    Constants(BrokenConstants),
+}
 
 impl From<NoMemory> for Unfinished {
     fn from(_: NoMemory) -> Self {
-        Unfinished
+        Unfinished::NoMemory
+    }
+}
+
+impl From<Broken> for Unfinished {
+    fn from(broken: Broken) -> Self {
+        match broken {
+            Broken::NoMemory => Unfinished::NoMemory,
+            other => Unfinished::Handles(other),
+        }
+    }
+}
+
+impl From<BrokenConstants> for Unfinished {
+    fn from(broken: BrokenConstants) -> Self {
+        match broken {
+            BrokenConstants::NoMemory => Unfinished::NoMemory,
+            other => Unfinished::Constants(other),
+        }
     }
 }
 
 impl From<EditError> for Unfinished {
-    fn from(_: EditError) -> Self {
-        Unfinished
-    }
-}
-
-impl From<HandleError> for Unfinished {
-    fn from(_: HandleError) -> Self {
-        Unfinished
+    fn from(error: EditError) -> Self {
+        Unfinished::from(Broken::from(error))
     }
 }
 
 impl From<InternError> for Unfinished {
-    fn from(_: InternError) -> Self {
-        Unfinished
+    fn from(error: InternError) -> Self {
+        Unfinished::from(Broken::from(error))
     }
 }
 

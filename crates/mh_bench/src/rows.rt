@@ -18,8 +18,10 @@ use mh_edit::Key;
 use mh_form::Machine;
 use mh_handle::{FormTable, Handle, HandleError, Work};
 use mh_intern::{TypeSeat, TypeTable};
-use mh_leaves::{Leaves, read_manifest};
-use mh_steps::{ADD, Joined, LESS, MANIFEST, Root, SAME, SUB, Start, Step, TEXT, Typed, made};
+use mh_leaves::{Leaves, ManifestError, read_manifest};
+use mh_steps::{
+    ADD, Broken, Joined, LESS, MANIFEST, Root, SAME, SUB, Start, Step, TEXT, Typed, check, made,
+};
 use mh_values::{Items, LeafId, Num, Outcome, Value, are_typed};
 use std::alloc::Global;
 use std::sync::Wait;
@@ -282,7 +284,7 @@ pub(crate) fn called<'t>(
     leaves: &Leaves,
     call: Call,
     turns: u32,
-) -> Result<u64, NoMemory>
+) -> Result<u64, Broken>
     requires stands { StandsForSome leaves.now handle.now }
 {
     let args = items_of(alloc, call.args)?;
@@ -291,11 +293,11 @@ pub(crate) fn called<'t>(
         handle.ty().params.as_slice(),
         leaves.classes(),
     ) {
-        return Err(NoMemory);
+        return Err(Broken::Fixture("arguments of other types than the parameters"));
     }
     match call.machines {
-        Machines::New => run_each(alloc, handle, leaves, &args, turns),
-        Machines::Kept => run_kept(alloc, handle, leaves, &args, turns),
+        Machines::New => Ok(run_each(alloc, handle, leaves, &args, turns)?),
+        Machines::Kept => Ok(run_kept(alloc, handle, leaves, &args, turns)?),
     }
 }
 
@@ -305,11 +307,12 @@ pub(crate) fn calls<'t, R: Wait>(
     rt: &R,
     subject: Subject<'_>,
     turns: u32,
-) -> Result<u64, HandleError>
+) -> Result<u64, Broken>
     requires ready { IsReady w.old 219 }
     requires few { length subject.steps.now ≤ 100 }
 {
     let leaves = w.leaves;
+    check(w.alloc, leaves, subject.root, subject.steps)?;
     let handle = made(w, rt, subject.root, subject.steps)?;
     let sum = called(w.alloc, &handle, leaves, subject.call, turns);
     handle.give_back(w);
@@ -317,23 +320,25 @@ pub(crate) fn calls<'t, R: Wait>(
 }
 
 /// Makes a handle, and asks this many times for its form with the first parameter bound.
-fn edits<'t, R: Wait>(w: &mut Work<'_, 't>, rt: &R, turns: u32) -> Result<u64, HandleError>
+fn edits<'t, R: Wait>(w: &mut Work<'_, 't>, rt: &R, turns: u32) -> Result<u64, Broken>
     requires ready { IsReady w.old (219 + turns) }
 {
+    check(w.alloc, w.leaves, Root::Leaf(ADD), &[FILTERED])?;
     let handle = made(w, rt, Root::Leaf(ADD), &[FILTERED])?;
     let sum = edit_each(w, rt, &handle, turns);
     handle.give_back(w);
-    sum
+    Ok(sum?)
 }
 
 /// Makes a handle, and binds this many copies of it.
-fn binds<'t, R: Wait>(w: &mut Work<'_, 't>, rt: &R, turns: u32) -> Result<u64, HandleError>
+fn binds<'t, R: Wait>(w: &mut Work<'_, 't>, rt: &R, turns: u32) -> Result<u64, Broken>
     requires ready { IsReady w.old (220 + turns) }
 {
+    check(w.alloc, w.leaves, Root::Leaf(ADD), &[FILTERED])?;
     let handle = made(w, rt, Root::Leaf(ADD), &[FILTERED])?;
     let sum = bind_each(w, rt, &handle, turns);
     handle.give_back(w);
-    sum
+    Ok(sum?)
 }
 
 /// A drop of 193 ints, and 60 drops of one.
@@ -346,9 +351,10 @@ fn drops() -> [Step; 61]
 }
 
 /// Makes a handle of 254 parameters.
-fn many_drops<'t, R: Wait>(w: &mut Work<'_, 't>, rt: &R) -> Result<u64, HandleError>
+fn many_drops<'t, R: Wait>(w: &mut Work<'_, 't>, rt: &R) -> Result<u64, Broken>
     requires ready { IsReady w.old 219 }
 {
+    check(w.alloc, w.leaves, Root::Leaf(SAME), &drops())?;
     let handle = made(w, rt, Root::Leaf(SAME), &drops())?;
     let number = handle.form().number();
     handle.give_back(w);
@@ -369,7 +375,7 @@ fn texts<'t, R: Wait>(
     length: usize,
     machines: Machines,
     turns: u32,
-) -> Result<u64, HandleError>
+) -> Result<u64, Broken>
     requires ready { IsReady w.old 219 }
 {
     let subject = Subject {
@@ -389,7 +395,7 @@ fn three_names<'t, R: Wait>(
     rt: &R,
     machines: Machines,
     turns: u32,
-) -> Result<u64, HandleError>
+) -> Result<u64, Broken>
     requires ready { IsReady w.old 219 }
 {
     let subject = Subject {
@@ -409,7 +415,7 @@ fn tree<'t, R: Wait>(
     rt: &R,
     machines: Machines,
     turns: u32,
-) -> Result<u64, HandleError>
+) -> Result<u64, Broken>
     requires ready { IsReady w.old 219 }
 {
     let subject = Subject {
@@ -447,7 +453,7 @@ fn branches<'t, R: Wait>(
     rt: &R,
     branch: Branch,
     turns: u32,
-) -> Result<u64, HandleError>
+) -> Result<u64, Broken>
     requires ready { IsReady w.old 219 }
 {
     let subject = Subject {
@@ -462,12 +468,7 @@ fn branches<'t, R: Wait>(
 }
 
 /// The work of a row, this many times, on one table.
-fn row_on<'t, R: Wait>(
-    w: &mut Work<'_, 't>,
-    rt: &R,
-    row: Row,
-    turns: u32,
-) -> Result<u64, HandleError>
+fn row_on<'t, R: Wait>(w: &mut Work<'_, 't>, rt: &R, row: Row, turns: u32) -> Result<u64, Broken>
     requires ready { IsReady w.old (2 ^ 33) }
 {
     match row {
@@ -478,8 +479,8 @@ fn row_on<'t, R: Wait>(
         Row::Drops60 => many_drops(w, rt),
         Row::Tree256 => tree(w, rt, Machines::New, turns),
         Row::Tree256Kept => tree(w, rt, Machines::Kept, turns),
-        Row::NewForm => forms(w, rt, turns),
-        Row::SplitJoined => splits(w, rt, turns),
+        Row::NewForm => Ok(forms(w, rt, turns)?),
+        Row::SplitJoined => Ok(splits(w, rt, turns)?),
         Row::LongText => texts(w, rt, 4096, Machines::New, turns),
         Row::LongTextKept => texts(w, rt, 4096, Machines::Kept, turns),
         Row::ShortText => texts(w, rt, 1, Machines::New, turns),
@@ -495,7 +496,7 @@ fn first_on<R: Wait>(
     held: &mut TypeSeat,
     row: Row,
     turns: u32,
-) -> Result<u64, HandleError>
+) -> Result<u64, Broken>
     requires first { start.seat ≡ seat_at start.table.now 0 }
     requires held { held.old ≡ new_seat start.types.now limit }
 {
@@ -534,7 +535,7 @@ fn once<R: Wait>(
     leaves: &Leaves,
     row: Row,
     turns: u32,
-) -> Result<u64, HandleError> {
+) -> Result<u64, Broken> {
     let (types, mut held) = TypeTable::new(alloc)?;
     let (table, seat) = FormTable::new(alloc)?;
     let start = Start {
@@ -548,12 +549,12 @@ fn once<R: Wait>(
 }
 
 /// The leaves of a row.
-fn leaves_of(alloc: Global, row: Row) -> Result<Leaves, NoMemory> {
+fn leaves_of(alloc: Global, row: Row) -> Result<Leaves, ManifestError> {
     let manifest = match row {
         Row::Concat(_) => concats::MANIFEST,
         _ => MANIFEST,
     };
-    read_manifest(alloc, manifest).map_err(|_| NoMemory)
+    read_manifest(alloc, manifest)
 }
 
 /// The work of a row, this many times. The answer depends on all of it.
@@ -562,7 +563,7 @@ pub(crate) fn measured<R: Wait>(
     alloc: Global,
     row: Row,
     turns: u32,
-) -> Result<u64, HandleError> {
+) -> Result<u64, Broken> {
     let leaves = leaves_of(alloc, row)?;
     if !matches!(row, Row::Drops60) {
         return once(rt, alloc, &leaves, row, turns);
