@@ -21,9 +21,9 @@ use Rattle.mh_link.specs.Named.{Constants}
 use Rattle.mh_link.specs.Depth.{rank}
 use Rattle.mh_link.specs.Places.{is_in, Has}
 use Rattle.mh_link.specs.Resolved.{Found, asked, resolved_parts, taken}
-use Rattle.mh_link.proofs.Asked.{agree-each}
-use Rattle.mh_link.proofs.Places.{has-cons}
-use Rattle.mh_link.proofs.Resolving.{parts-same}
+use Rattle.mh_link.proofs.constants.Asked.{agree-each}
+use Rattle.mh_link.proofs.walking.Places.{has-cons}
+use Rattle.mh_link.proofs.constants.Resolving.{parts-same}
 use Rattle.mh_condy.specs.declared.attempt.Asked.{Asked}
 use Rattle.mh_condy.specs.Given.{AreAsked, HasMade, HaveGiven, ResolvesTo, constants_among}
 use Rattle.mh_condy.specs.Nodes.{Knows, found_in, node_in, unknown}

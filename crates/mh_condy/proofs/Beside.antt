@@ -12,10 +12,10 @@ use Rattle.mh_link.specs.Places.{is_in, Has}
 use Rattle.mh_link.specs.Asking.{asked_by, below, with_below}
 use Rattle.mh_condy.specs.Nodes.{Nodes, node_in, found_in, is_known, IsNodeOf, AreNodes, Keeps, unknown}
 use Rattle.mh_condy.specs.Trails.{Trail, AreOwnNodes, HasPutAll, AreApart, AttemptsMore, GoesBeside, GoesOn, PutBy}
-use Rattle.mh_link.proofs.Places.{has-append, has-cons, has-here, has-left, has-right, has-there, in-append}
+use Rattle.mh_link.proofs.walking.Places.{has-append, has-cons, has-here, has-left, has-right, has-there, in-append}
 use Rattle.mh_condy.proofs.Unknown.{put-other, put-there, unknown-put}
-use Rattle.mh_link.proofs.Asked.{agree-each, rank-falls, under-same}
-use Rattle.mh_link.proofs.Asking.{below-again}
+use Rattle.mh_link.proofs.constants.Asked.{agree-each, rank-falls, under-same}
+use Rattle.mh_link.proofs.walking.Asking.{below-again}
 use Rattle.mh_condy.proofs.Trails.{found-kept, goes-both, goes-known, goes-new, goes-none, keeps-both, keeps-same, known-at, known-kept, none-at, noted}
 
 -- ---- lists

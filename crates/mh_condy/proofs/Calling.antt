@@ -13,7 +13,7 @@ use Rattle.mh_link.specs.Places.{Has}
 use Rattle.mh_link.specs.Resolved.{Agree, asked}
 use Rattle.mh_link.specs.Constants.{as_recorded, const_outcome, too_deep}
 use Rattle.mh_link.specs.Asking.{asked_by}
-use Rattle.mh_link.proofs.Asked.{agree-each, under-same}
+use Rattle.mh_link.proofs.constants.Asked.{agree-each, under-same}
 use Rattle.mh_condy.specs.Given.{IsUnasked, call_outcome}
 use Rattle.mh_condy.specs.Nodes.{Knows, Nodes, found_in}
 use Rattle.mh_condy.specs.Recorded.{FindingView, IsConst, constants_of, found_of}

@@ -7,7 +7,7 @@ use Rattle.std.proofs.lemmas.Bool.{lt-ltb}
 use Rattle.std.proofs.lemmas.List.Sums.{sum_by-cons}
 use Rattle.mh_link.specs.Named.{Constants}
 use Rattle.mh_link.specs.Depth.{depth, most_depth, rank}
-use Rattle.mh_link.proofs.Depths.{depth-small}
+use Rattle.mh_link.proofs.constants.Depths.{depth-small}
 use Rattle.mh_condy.specs.Nodes.{Nodes, unknown, unresolved}
 use Rattle.mh_condy.specs.Passes.{PassView}
 use Rattle.mh_condy.specs.Recorded.{ConstView}

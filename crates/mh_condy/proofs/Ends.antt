@@ -11,7 +11,7 @@ use Rattle.mh_link.specs.Depth.{rank}
 use Rattle.mh_link.specs.Places.{is_in, Has}
 use Rattle.mh_link.specs.Asking.{asked_by}
 use Rattle.mh_link.specs.Constants.{const_under}
-use Rattle.mh_link.proofs.Places.{has-cons}
+use Rattle.mh_link.proofs.walking.Places.{has-cons}
 use Rattle.mh_condy.specs.declared.pass.ConstAttempt.{ConstAttempt}
 use Rattle.mh_condy.specs.Recorded.{ConstView, IsConst, constants_of}
 use Rattle.mh_condy.specs.Given.{HasMade}

@@ -8,8 +8,8 @@ use Rattle.mh_link.specs.Places.{is_in, Has}
 use Rattle.mh_link.specs.Resolved.{Agree}
 use Rattle.mh_link.specs.Asking.{asked_by}
 use Rattle.mh_link.specs.Constants.{const_under}
-use Rattle.mh_link.proofs.Places.{has-cons}
-use Rattle.mh_link.proofs.Asked.{agree-each, under-same}
+use Rattle.mh_link.proofs.walking.Places.{has-cons}
+use Rattle.mh_link.proofs.constants.Asked.{agree-each, under-same}
 use Rattle.mh_condy.specs.Recorded.{ConstView, FindingView, IsConst, constants_of, found_of}
 use Rattle.mh_condy.specs.Nodes.{IsNodeOf, Knows, Nodes, found_in, is_known}
 use Rattle.mh_condy.proofs.Trails.{known-at}

@@ -3,7 +3,7 @@ use Rattle.std.proofs.Common.{◌≡◌, refl, sym, ◌∙◌, ap, ap₂, ℕ, B
 use Rattle.std.specs.Prelude.{◌==◌}
 use Rattle.std.proofs.lemmas.Bool.{both_ways, eqb-true, ne_eqb, eqb-false, or_parts}
 use Rattle.mh_link.specs.Places.{is_in, Has, first_new, first_places}
-use Rattle.mh_link.proofs.Places.{has-here, has-there}
+use Rattle.mh_link.proofs.walking.Places.{has-here, has-there}
 
 pub new-same : (p q : ℕ → Bool) (xs : List ℕ) → ((k : ℕ) → p k ≡ q k) → first_new p xs ≡ first_new q xs
 new-same p q [] same = refl

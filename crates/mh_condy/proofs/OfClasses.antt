@@ -20,7 +20,7 @@ use Rattle.mh_jobs.specs.Names.{is_known_owner, script_of}
 use Rattle.mh_jobs.specs.Thrown.{OrThrown, as_shown, no_class, no_method, unsupported}
 use Rattle.mh_jobs.proofs.Parts.{bound-parts, require-parts}
 use Rattle.mh_link.specs.Named.{Constants, NamesItsOwn}
-use Rattle.mh_link.proofs.NamedOwn.{job-names}
+use Rattle.mh_link.proofs.constants.NamedOwn.{job-names}
 use Rattle.mh_condy.specs.Runs.{AreConstantJobs, AreResolvable, IsConstJob}
 
 -- the job is made of a Dynamic entry

@@ -6,7 +6,7 @@ use Rattle.std.proofs.lemmas.List.{length-map, length-replicate}
 use Rattle.mh_jobs.specs.declared.constants.ConstJob.{ConstJob}
 use Rattle.mh_link.specs.Named.{Constants}
 use Rattle.mh_link.specs.Depth.{depth_within, greatest, most_depth}
-use Rattle.mh_link.proofs.Depths.{depth-small, depth-some}
+use Rattle.mh_link.proofs.constants.Depths.{depth-small, depth-some}
 use Rattle.mh_condy.specs.Depths.{as_depth, as_number, over_names, AreDepthsWithin}
 use Rattle.mh_condy.specs.Runs.{AreDepths}
 

@@ -5,7 +5,7 @@ use Rattle.mh_condy.specs.Recorded.{ConstView}
 use Rattle.mh_jobs.specs.Thrown.{OrThrown}
 use Rattle.mh_jobs.specs.declared.unresolved.StaticArguments.{StaticArguments}
 use Rattle.mh_link.specs.Resolved.{Agree, Found, asked, resolved}
-use Rattle.mh_link.proofs.Resolving.{resolving}
+use Rattle.mh_link.proofs.constants.Resolving.{resolving}
 use Rattle.mh_link.specs.Named.{Constants, AreConstJobs}
 use Rattle.mh_link.specs.Depth.{most_depth}
 use Rattle.mh_link.specs.Constants.{serial_at, values_of}
@@ -13,9 +13,9 @@ use Rattle.mh_link.specs.Places.{is_in, Has}
 use Rattle.mh_link.specs.Asking.{asked_by, asked_of_call, asks, with_below}
 use Rattle.mh_condy.specs.Nodes.{Nodes, node_in, found_in, is_known, serials_in, AreNodes, Keeps}
 use Rattle.mh_condy.specs.Trails.{Trail, GoesBeside}
-use Rattle.mh_link.proofs.Places.{in-first}
-use Rattle.mh_link.proofs.Asked.{agree-each}
-use Rattle.mh_link.proofs.Asking.{asked-same}
+use Rattle.mh_link.proofs.walking.Places.{in-first}
+use Rattle.mh_link.proofs.constants.Asked.{agree-each}
+use Rattle.mh_link.proofs.walking.Asking.{asked-same}
 use Rattle.mh_condy.proofs.Trails.{all-known, found-kept}
 use Rattle.mh_condy.proofs.WholeTrails.{below-values, call-values, found-values, serial-in}
 

@@ -13,12 +13,12 @@ use Rattle.mh_link.specs.Places.{is_in, Has, first_new}
 use Rattle.mh_link.specs.Asking.{asked_by, below, with_below}
 use Rattle.mh_condy.specs.Nodes.{Nodes, node_in, found_in, is_known, IsNodeOf, AreNodes, Keeps, unknown}
 use Rattle.mh_condy.specs.Trails.{Trail, GoesOn}
-use Rattle.mh_link.proofs.Places.{flat-has, has-cons, has-flat, has-here, in-append}
+use Rattle.mh_link.proofs.walking.Places.{flat-has, has-cons, has-flat, has-here, in-append}
 use Rattle.mh_condy.proofs.News.{new-append, new-none, new-other, new-same}
 use Rattle.mh_condy.proofs.Unknown.{put-other, put-there, unknown-put}
-use Rattle.mh_link.proofs.Walks.{below-same, below-suc, below-zero, with-below-same}
-use Rattle.mh_link.proofs.Asked.{agree-each, rank-falls, under-same}
-use Rattle.mh_link.proofs.Asking.{below-again}
+use Rattle.mh_link.proofs.walking.Walks.{below-same, below-suc, below-zero, with-below-same}
+use Rattle.mh_link.proofs.constants.Asked.{agree-each, rank-falls, under-same}
+use Rattle.mh_link.proofs.walking.Asking.{below-again}
 
 -- ---- what is known
 

@@ -16,7 +16,7 @@ use Rattle.mh_link.specs.Resolved.{Found, resolved}
 use Rattle.mh_link.specs.Constants.{call_value, const_outcome, too_deep}
 use Rattle.mh_link.specs.Asking.{asked_by, asked_of_call, asked_of_job}
 use Rattle.mh_link.specs.Places.{Has}
-use Rattle.mh_link.proofs.Depths.{depth-falls, depth-some}
+use Rattle.mh_link.proofs.constants.Depths.{depth-falls, depth-some}
 use Rattle.mh_condy.specs.Given.{AreUnder, call_outcome}
 use Rattle.mh_condy.specs.Runs.{HavePlaces}
 

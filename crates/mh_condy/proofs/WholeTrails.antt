@@ -14,13 +14,13 @@ use Rattle.mh_link.specs.Places.{is_in, Has, first_new, first_places}
 use Rattle.mh_link.specs.Asking.{asked_of_call, asked_by, asked_by_all, below, with_below}
 use Rattle.mh_condy.specs.Nodes.{Nodes, node_in, found_in, is_known, serials_in, AreNodes, Keeps}
 use Rattle.mh_condy.specs.Trails.{Trail, GoesOn, IsFresh}
-use Rattle.mh_link.proofs.Places.{first-append, first-twice, has-left, has-right, in-append, in-first}
+use Rattle.mh_link.proofs.walking.Places.{first-append, first-twice, has-left, has-right, in-append, in-first}
 use Rattle.mh_condy.proofs.Trails.{found-kept, goes-both, seen-known}
 use Rattle.mh_condy.proofs.News.{new-places}
-use Rattle.mh_link.proofs.Asked.{agree-each, under-same}
-use Rattle.mh_link.proofs.Asking.{asked-same}
-use Rattle.mh_link.proofs.FixedPoint.{only}
-use Rattle.mh_link.proofs.Walks.{below-same, with-below-same}
+use Rattle.mh_link.proofs.constants.Asked.{agree-each, under-same}
+use Rattle.mh_link.proofs.walking.Asking.{asked-same}
+use Rattle.mh_link.proofs.constants.FixedPoint.{only}
+use Rattle.mh_link.proofs.walking.Walks.{below-same, with-below-same}
 
 -- the serials of nodes
 pub serial-in : (known : Nodes) (c : ℕ) → serial_at (serials_in known) c ≡ option_map (λ (node : ConstView). node.serial) (node_in known c)

@@ -9,7 +9,7 @@ use Rattle.mh_jobs.specs.declared.unresolved.Part.TheVariants.{Constant}
 use Rattle.mh_jobs.specs.Thrown.{OrThrown}
 use Rattle.mh_link.specs.Named.{Constants, Name}
 use Rattle.mh_link.specs.Places.{is_in, Has}
-use Rattle.mh_link.proofs.Places.{has-cons, has-here, has-there}
+use Rattle.mh_link.proofs.walking.Places.{has-cons, has-here, has-there}
 use Rattle.mh_condy.specs.Runs.{AreResolvable}
 use Rattle.mh_condy_tests.specs.declared.built.Built.{Built}
 use Rattle.mh_condy_tests.specs.Built.{AreOver, IsOver, are_below, job_over, run_of}

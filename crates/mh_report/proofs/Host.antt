@@ -4,7 +4,7 @@ use Rattle.mh_script.specs.declared.operand.ValueOperand.TheVariants as of_value
 use Rattle.mh_script.specs.declared.script.Operation.TheVariants as operation
 use Rattle.mh_script.specs.declared.script.Script.{Script}
 use Rattle.mh_script.specs.declared.script.Step.TheVariants as step
-use Rattle.mh_link.proofs.Host.{add, boxed_int, reg, returns, script}
+use Rattle.mh_link.proofs.worked.Host.{add, boxed_int, reg, returns, script}
 
 -- `let a leaf @add`, `let b bind a 1 I:10`, `return b`
 abbrev pub adding_ten : Script

@@ -7,7 +7,7 @@ use Rattle.mh_class_bytes.specs.Chars.{chars_from, units_from, shown}
 use Rattle.mh_class_bytes.specs.Mutf8.{sound_from, unit_len}
 use Rattle.mh_jobs.specs.Given.{Given}
 use Rattle.mh_jobs.specs.Thrown.{caused, runtime_class}
-use Rattle.mh_link.proofs.CallsOfSites.{told}
+use Rattle.mh_link.proofs.worked.CallsOfSites.{told}
 use Rattle.mh_plan.specs.declared.call.Call.{Call}
 use Rattle.mh_plan.specs.declared.call.Call.TheVariants.{Exact, Indy}
 use Rattle.mh_plan.specs.Naming.{naming_of, pairs_named}

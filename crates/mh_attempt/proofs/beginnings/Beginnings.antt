@@ -27,8 +27,8 @@ use Rattle.mh_link.specs.Linked.{at_start, called_script, ended, stepped}
 use Rattle.mh_link.specs.Made.{edits, nodes, nodes_from, nodes_of_call, nodes_of_method, nodes_of_step, returned, unless_thrown}
 use Rattle.mh_link.specs.Resolved.{job_call}
 use Rattle.mh_link.specs.Operands.{Frame}
-use Rattle.mh_link.proofs.Attempts.{made-typed}
-use Rattle.mh_link.proofs.Nodes.{IsTyped}
+use Rattle.mh_link.proofs.typing.Attempts.{made-typed}
+use Rattle.mh_link.proofs.typing.Nodes.{IsTyped}
 use Rattle.mh_attempt.specs.Recipes.{attempt_recipes, call_asked, method_asked, script_asked, step_asked}
 use Rattle.mh_attempt.proofs.beginnings.AskedAmong.{attempt-among}
 use Rattle.mh_attempt.proofs.beginnings.KnownHandles.{AreKnown, edits_of, recipes_of}

@@ -14,7 +14,7 @@ use Rattle.mh_edit.specs.declared.key.Key.{Key}
 use Rattle.mh_edit.specs.declared.key.Key.TheVariants as key
 use Rattle.mh_handle.specs.Recipe.{at_some, at_type, recipe}
 use Rattle.mh_link.specs.Made.{beginnings}
-use Rattle.mh_link.proofs.Nodes.{IsTyped}
+use Rattle.mh_link.proofs.typing.Nodes.{IsTyped}
 use Rattle.mh_attempt.proofs.beginnings.RecipeBeginnings.{whole-beginning}
 use Rattle.mh_attempt.proofs.asked.RecipeCounts.{is_one}
 use Rattle.mh_attempt.proofs.asked.RecipeSets.{AreAmong, each-among, none-among, one-among}

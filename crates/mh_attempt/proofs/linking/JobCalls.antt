@@ -16,9 +16,9 @@ use Rattle.mh_jobs.specs.Given.{IsJob}
 use Rattle.mh_jobs.specs.Sites.{site_bootstrap, site_job}
 use Rattle.mh_link.specs.Linked.{IsThere}
 use Rattle.mh_link.specs.Resolved.{call_under, job_call, nothing_known}
-use Rattle.mh_link.proofs.Attempts.{method-there}
-use Rattle.mh_link.proofs.Leaves.{call-typed}
-use Rattle.mh_link.proofs.SiteCalls.{call-made}
+use Rattle.mh_link.proofs.typing.Attempts.{method-there}
+use Rattle.mh_link.proofs.typing.Leaves.{call-typed}
+use Rattle.mh_link.proofs.constants.SiteCalls.{call-made}
 use Rattle.mh_attempt.specs.Registers.{HasLeaves}
 
 -- ---- the site

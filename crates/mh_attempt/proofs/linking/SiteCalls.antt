@@ -22,7 +22,7 @@ use Rattle.mh_jobs.specs.Jobs.{params_at}
 use Rattle.mh_link.specs.Linked as meant
 use Rattle.mh_link.specs.Linked.{Target, Error, linked}
 use Rattle.mh_link.specs.Sites.{linked_at}
-use Rattle.mh_link.proofs.Targets.{linked-typed}
+use Rattle.mh_link.proofs.typing.Targets.{linked-typed}
 use Rattle.mh_attempt.specs.declared.linkage.Linked.TheVariants as held
 use Rattle.mh_attempt.specs.Linkage.{IsLinkage, IsLinkedBy}
 use Rattle.mh_attempt.proofs.linking.JobCalls.{job-type}

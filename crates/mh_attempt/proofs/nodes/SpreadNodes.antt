@@ -21,7 +21,7 @@ use Rattle.mh_jobs.proofs.Parts.{bound-parts, require-parts}
 use Rattle.mh_attempt.specs.Lines.{MakesNode, typed}
 use Rattle.mh_link.specs.Operations.{spread_of}
 use Rattle.mh_attempt.proofs.nodes.LineNodes.{made-node, same-node}
-use Rattle.mh_link.proofs.Uses.{spread_of-type}
+use Rattle.mh_link.proofs.typing.Uses.{spread_of-type}
 
 module _ (leaves : LeafTable) (t : Tree) (own : MethodTy) (array : Option Ty) (count : ℕ) (typed-as : type_of leaves t ≡ Ok own) where
   -- what the rule says of types and weights

@@ -8,7 +8,7 @@ use Rattle.mh_handle.proofs.obeying.Going.{goes_on-more}
 use Rattle.mh_handle.proofs.obeying.Rooms.{goes_on-none, ready-less}
 use Rattle.mh_link.specs.Concatenation.{pieces_given}
 use Rattle.mh_link.specs.Made.{concat_nodes, types_of}
-use Rattle.mh_link.proofs.Concatenations.{given-joined}
+use Rattle.mh_link.proofs.typing.Concatenations.{given-joined}
 use Rattle.mh_attempt.proofs.types.Adding.{adds-made, adds-none, adds-unmade}
 use Rattle.mh_attempt.proofs.types.AskingTypes.{types-refused}
 use Rattle.mh_attempt.proofs.linking.Concatenating.{made-asks, made-target, made-types, refused-asks, refused-target, same-pieces}

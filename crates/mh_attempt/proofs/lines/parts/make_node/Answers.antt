@@ -1,6 +1,6 @@
 use Rattle.std.proofs.Common.{ap, refl, sym, ◌∙◌, subst, [], ◌∷◌}
 use Rattle.mh_tree.specs.Tree as tree
-use Rattle.mh_link.proofs.Leaves.{leaf-typed}
+use Rattle.mh_link.proofs.typing.Leaves.{leaf-typed}
 use Rattle.mh_link.specs.Operations.{use_of}
 use Rattle.mh_attempt.specs.Cases.{StandForEach}
 use Rattle.mh_attempt.specs.Nodes.{AreAllOperands, AreOperands}

@@ -25,10 +25,10 @@ use Rattle.mh_link.specs.Concatenation.{concat_of}
 use Rattle.mh_link.specs.Linked.{IsThere, called_script, at_start}
 use Rattle.mh_link.specs.Made.{nodes, nodes_from, nodes_of_call, nodes_of_method}
 use Rattle.mh_link.specs.Resolved.{Found, call_under, nothing_known}
-use Rattle.mh_link.proofs.Concatenations.{concat-typed}
-use Rattle.mh_link.proofs.Leaves.{call-typed}
-use Rattle.mh_link.proofs.Nodes.{AreTyped, IsTyped, thrown-typed, from-typed}
-use Rattle.mh_link.proofs.SiteCalls.{call-made}
+use Rattle.mh_link.proofs.typing.Concatenations.{concat-typed}
+use Rattle.mh_link.proofs.typing.Leaves.{call-typed}
+use Rattle.mh_link.proofs.typing.Nodes.{AreTyped, IsTyped, thrown-typed, from-typed}
+use Rattle.mh_link.proofs.constants.SiteCalls.{call-made}
 
 method-typed : (leaves : LeafTable) (scripts : List Script) (serial : ℕ) (call : BootstrapCall) (m : Method) → AreTyped leaves call →
     All (IsTyped leaves) (nodes_of_method leaves scripts serial call m)

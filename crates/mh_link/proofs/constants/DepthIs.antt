@@ -6,7 +6,7 @@ use Rattle.std.proofs.lemmas.Bool.{cond-false, cond-true, le-leb, leb-false, leb
 use Rattle.mh_jobs.specs.declared.constants.ConstJob.{ConstJob}
 use Rattle.mh_link.specs.Named.{Constants}
 use Rattle.mh_link.specs.Depth.{cut, depth, depth_within, greatest, most_depth}
-use Rattle.mh_link.proofs.Depths.{depth-some}
+use Rattle.mh_link.proofs.constants.Depths.{depth-some}
 
 cut-small : (n k : ℕ) → k ≤ n → cut n (Some k) ≡ Some k
 cut-small n k low = cond-true (nat_le k n) (Some k) None (le-leb k n low)

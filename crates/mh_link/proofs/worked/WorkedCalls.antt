@@ -16,8 +16,8 @@ use Rattle.mh_script.specs.declared.operand.ValueOperand.TheVariants as of_value
 use Rattle.mh_script.specs.declared.script.Operation.TheVariants as operation
 use Rattle.mh_script.specs.declared.script.Step.TheVariants as step
 use Rattle.mh_jobs.specs.Thrown.{caused}
-use Rattle.mh_link.proofs.Host.{boxed_int, host_leaf, add, sub, tick, nothing, reg, returns, links}
-use Rattle.mh_link.proofs.CallsOfSites.{calling}
+use Rattle.mh_link.proofs.worked.Host.{boxed_int, host_leaf, add, sub, tick, nothing, reg, returns, links}
+use Rattle.mh_link.proofs.worked.CallsOfSites.{calling}
 
 the_later_filter_runs_first :
     calling (links (codes "(II)I") (step.Let (codes "s") sub ∷ step.Let (codes "t") tick ∷ step.Let (codes "u")

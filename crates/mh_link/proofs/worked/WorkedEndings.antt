@@ -13,7 +13,7 @@ use Rattle.mh_script.specs.declared.script.Operation.{Operation}
 use Rattle.mh_script.specs.declared.script.Operation.TheVariants as operation
 use Rattle.mh_script.specs.declared.script.Step.TheVariants as step
 use Rattle.mh_link.specs.Linked.{Target, Error}
-use Rattle.mh_link.proofs.Host.{leaf, boxed_int, host_leaf, add, sub, same, reg, returns, links, failed}
+use Rattle.mh_link.proofs.worked.Host.{leaf, boxed_int, host_leaf, add, sub, same, reg, returns, links, failed}
 
 -- int 0
 abbrev zero_of_int : Operation

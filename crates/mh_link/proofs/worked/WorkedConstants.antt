@@ -32,7 +32,7 @@ use Rattle.mh_link.specs.ConstScripts.{script_value}
 use Rattle.mh_link.specs.Constants.{Serials, too_deep, values, values_of}
 use Rattle.mh_link.specs.Asking.{asked_of_call, asked_by, asks, below, with_below}
 use Rattle.mh_link.specs.Walks.{visited, walked}
-use Rattle.mh_link.proofs.Host.{host}
+use Rattle.mh_link.proofs.worked.Host.{host}
 
 -- ---- scripts
 

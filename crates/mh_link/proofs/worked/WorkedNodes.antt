@@ -16,7 +16,7 @@ use Rattle.mh_script.specs.declared.script.Operation.TheVariants as operation
 use Rattle.mh_script.specs.declared.script.Step.TheVariants as step
 use Rattle.mh_link.specs.Linked.{held_by}
 use Rattle.mh_jobs.proofs.Host.{of, handle_to}
-use Rattle.mh_link.proofs.Host.{two_ints, leaf, host, boxed_int, host_leaf, add, sub, tick, same, reg, arg, returns, links, nodes_with}
+use Rattle.mh_link.proofs.worked.Host.{two_ints, leaf, host, boxed_int, host_leaf, add, sub, tick, same, reg, arg, returns, links, nodes_with}
 
 each_line_makes_its_node :
     nodes_with (codes "(II)I") [] (step.Let (codes "s") sub ∷ step.Let (codes "t") tick ∷ step.Let (codes "u")

@@ -32,8 +32,8 @@ use Rattle.mh_jobs.specs.Sites.{site_bootstrap}
 use Rattle.mh_jobs.specs.Names.{unless_missing, leaf_named, method_type_of_text}
 use Rattle.mh_jobs.specs.Thrown.{Says, OrThrown, ◌>>=◌, as_shown, unsupported}
 use Rattle.mh_link.specs.Resolved.{Found, taken, resolved, call_under}
-use Rattle.mh_link.proofs.Nodes.{IsTyped, AreTyped}
-use Rattle.mh_link.proofs.SiteCalls.{call-made}
+use Rattle.mh_link.proofs.typing.Nodes.{IsTyped, AreTyped}
+use Rattle.mh_link.proofs.constants.SiteCalls.{call-made}
 use Rattle.mh_jobs.proofs.Parts.{bound-parts}
 
 at-within : (n : ℕ) (o : Option ℕ) (l : LeafId) → IfSome o (λ i. i < n) → leaf_numbered o ≡ Ok l → l.0 < n

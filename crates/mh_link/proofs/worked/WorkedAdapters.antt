@@ -12,7 +12,7 @@ use Rattle.mh_script.specs.declared.script.Operation.TheVariants as operation
 use Rattle.mh_script.specs.declared.script.Step.TheVariants as step
 use Rattle.mh_link.specs.Linked.{Target}
 use Rattle.mh_jobs.proofs.Host.{of}
-use Rattle.mh_link.proofs.Host.{ints, two_ints, leaf, boxed_int, host_leaf, add, sub, tick, nothing, reg, returns, links, type_linked, failed}
+use Rattle.mh_link.proofs.worked.Host.{ints, two_ints, leaf, boxed_int, host_leaf, add, sub, tick, nothing, reg, returns, links, type_linked, failed}
 
 two_filters_link :
     links (codes "(II)I")

@@ -16,8 +16,8 @@ use Rattle.mh_script.specs.declared.operand.TypeOperand.TheVariants as of_type
 use Rattle.mh_script.specs.declared.script.Operation.TheVariants as operation
 use Rattle.mh_script.specs.declared.script.Step.TheVariants as step
 use Rattle.mh_jobs.specs.Thrown.{caused}
-use Rattle.mh_link.proofs.Host.{host_leaf, add, sub, tick, same, nothing, reg, returns, links}
-use Rattle.mh_link.proofs.CallsOfSites.{calling}
+use Rattle.mh_link.proofs.worked.Host.{host_leaf, add, sub, tick, same, nothing, reg, returns, links}
+use Rattle.mh_link.proofs.worked.CallsOfSites.{calling}
 
 a_void_handle_runs_before :
     calling (links (codes "(II)I") (step.Let (codes "a") add ∷ step.Let (codes "n") nothing ∷ step.Let (codes "c")

@@ -14,7 +14,7 @@ use Rattle.mh_script.specs.declared.script.Operation.TheVariants as operation
 use Rattle.mh_script.specs.declared.script.Step.TheVariants as step
 use Rattle.mh_link.specs.Linked.{Target, Error}
 use Rattle.mh_jobs.proofs.Host.{of}
-use Rattle.mh_link.proofs.Host.{ints, two_ints, leaf, boxed_long, host_leaf, add, sub, tick, same, reg, returns, links, attempt_with, type_linked, failed}
+use Rattle.mh_link.proofs.worked.Host.{ints, two_ints, leaf, boxed_long, host_leaf, add, sub, tick, same, reg, returns, links, attempt_with, type_linked, failed}
 
 a_weight_of_256_links :
     type_linked (links (codes "(II)I")

@@ -23,7 +23,7 @@ use Rattle.mh_script.specs.declared.script.Step.{Step}
 use Rattle.mh_script.specs.declared.script.Step.TheVariants as step
 use Rattle.mh_jobs.proofs.Parts.{bound-parts, require-parts}
 use Rattle.mh_link.specs.Linked.{Target, linkage, assigning, stepped, ended, ran, called_script, at_start, method_target, target_of, outcome, linked}
-use Rattle.mh_link.proofs.Concatenations.{concat-typed}
+use Rattle.mh_link.proofs.typing.Concatenations.{concat-typed}
 use Rattle.mh_jobs.specs.Names.{class_of}
 use Rattle.mh_link.specs.Resolved.{job_call}
 use Rattle.mh_link.specs.Operands.{Frame, handle_in, handle}

@@ -16,9 +16,9 @@ use Rattle.mh_link.specs.Named.{Constants, Name, AreConstJobs, arguments_of_call
 use Rattle.mh_link.specs.Depth.{rank, depth, most_depth}
 use Rattle.mh_link.specs.Constants.{too_deep, as_recorded, call_value, const_under}
 use Rattle.mh_link.specs.Asking.{asked_of_call, asked_of_job, asked_by}
-use Rattle.mh_link.proofs.Places.{has-cons, has-here, has-there}
-use Rattle.mh_link.proofs.Depths.{depth-falls, depth-small}
-use Rattle.mh_link.proofs.Resolving.{resolving}
+use Rattle.mh_link.proofs.walking.Places.{has-cons, has-here, has-there}
+use Rattle.mh_link.proofs.constants.Depths.{depth-falls, depth-small}
+use Rattle.mh_link.proofs.constants.Resolving.{resolving}
 
 -- what is looked at is named
 pub asked-named : (found : Found) (names : List ℕ) (parts : List Part) → Name names parts → (d : ℕ) → Has (asked found parts) d → Has names d

@@ -20,7 +20,7 @@ use Rattle.mh_jobs.specs.Thrown.{caused}
 use Rattle.mh_jobs.proofs.Host.{bootstrap_descriptor, site_of, booted, class_of}
 use Rattle.mh_link.specs.Linked.{Linked, Target, Error, linked}
 use Rattle.mh_link.specs.Made.{nodes}
-pub use Rattle.mh_link.proofs.HostLeaves.{ints, runtime, two_ints, static_leaf, host, leaf, boxed_int, boxed_long}
+pub use Rattle.mh_link.proofs.worked.HostLeaves.{ints, runtime, two_ints, static_leaf, host, leaf, boxed_int, boxed_long}
 
 -- ---- lines
 

@@ -7,7 +7,7 @@ use Rattle.mh_link.specs.Places.{is_in, Has}
 use Rattle.mh_jobs.specs.declared.constants.ConstJob.{ConstJob}
 use Rattle.mh_link.specs.Named.{Constants}
 use Rattle.mh_link.specs.Depth.{greatest, depth_within}
-use Rattle.mh_link.proofs.Places.{has-cons}
+use Rattle.mh_link.proofs.walking.Places.{has-cons}
 
 -- ---- options
 

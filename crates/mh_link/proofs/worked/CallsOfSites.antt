@@ -5,7 +5,7 @@ use Rattle.mh_values.specs.declared.value.Value.{Value}
 use Rattle.mh_values.specs.Computation.{Gave, Threw, Stuck}
 use Rattle.mh_tree.specs.Meaning.{Done}
 use Rattle.mh_link.specs.Linked.{Linked, site_call}
-use Rattle.mh_link.proofs.Host.{host}
+use Rattle.mh_link.proofs.worked.Host.{host}
 
 -- how a call ended, and the numbers of the leaves that it called
 abbrev pub told : Done → Option (Result (Option Value) Exc × List ℕ)

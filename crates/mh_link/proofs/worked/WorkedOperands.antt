@@ -19,7 +19,7 @@ use Rattle.mh_script.specs.declared.script.Step.TheVariants as step
 use Rattle.mh_link.specs.Linked.{Target, Error}
 use Rattle.mh_jobs.specs.Thrown.{no_class_def_found_class, no_such_method_class}
 use Rattle.mh_jobs.proofs.Host.{of, host_class, handle_to}
-use Rattle.mh_link.proofs.Host.{leaf, method, host_leaf, add, same, reg, arg, returns, links, links_with, failed}
+use Rattle.mh_link.proofs.worked.Host.{leaf, method, host_leaf, add, same, reg, arg, returns, links, links_with, failed}
 
 of_two_unknown_classes_the_left_one_is_thrown :
     links (codes "()I") (step.Let (codes "x") (operation.Throw (of_type.Descriptor (codes "Lno/Left;")) (codes "no/Right")) ∷ []) (returns (codes "x"))

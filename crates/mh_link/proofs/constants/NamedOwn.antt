@@ -23,7 +23,7 @@ use Rattle.mh_jobs.specs.Thrown.{OrThrown, ◌>>=◌, unsupported}
 use Rattle.mh_jobs.proofs.OfClasses.{either}
 use Rattle.mh_jobs.proofs.Parts.{bound-parts}
 use Rattle.mh_link.specs.Named.{Name, NamesItsOwn, AreConstJobs}
-use Rattle.mh_link.proofs.Places.{has-here, has-right, Within}
+use Rattle.mh_link.proofs.walking.Places.{has-here, has-right, Within}
 
 -- more names name the same parts
 name-more : (names more : List ℕ) (parts : List Part) → Within names more → Name names parts → Name more parts

@@ -26,7 +26,7 @@ use Rattle.mh_link.specs.Made.{handles_of, leaf_among, node_of_use, nodes_of_use
 use Rattle.mh_link.specs.Operands.{Frame}
 use Rattle.mh_link.specs.Operations.{asked_by, node_of}
 use Rattle.mh_jobs.specs.Thrown.{OrThrown, ◌>>=◌}
-use Rattle.mh_link.proofs.Targets.{stepped-call}
+use Rattle.mh_link.proofs.typing.Targets.{stepped-call}
 use Rattle.mh_jobs.proofs.Parts.{bound-parts}
 
 -- a tree that has a type

@@ -19,7 +19,7 @@ use Rattle.mh_script.specs.declared.script.Step.TheVariants as step
 use Rattle.mh_link.specs.Linked.{Target, Error}
 use Rattle.mh_jobs.specs.Thrown.{no_class_def_found_class, no_such_method_class, unsupported}
 use Rattle.mh_jobs.proofs.Host.{of}
-use Rattle.mh_link.proofs.Host.{leaf, host_leaf, add, sub, same, reg, returns, links, type_linked, failed}
+use Rattle.mh_link.proofs.worked.Host.{leaf, host_leaf, add, sub, same, reg, returns, links, type_linked, failed}
 
 items_are_converted_before_a_spread :
     links (codes "([Ljava/lang/Integer;)J") (step.Let (codes "w") (host_leaf (codes "wide") (codes "(JI)J")) ∷ step.Let (codes "p")

@@ -5,7 +5,7 @@ use Rattle.std.proofs.lemmas.Bool.{both_ways, or_cases, or_left, or_right}
 use Rattle.mh_link.specs.Places.{is_in, Has, first_places}
 use Rattle.mh_link.specs.Asking.{below, with_below}
 use Rattle.mh_link.specs.Walks.{visited, walked}
-use Rattle.mh_link.proofs.Places.{Within, after-first, first-append, first-none, first-same, flat-has, has-append, has-cons, has-flat, has-here, has-left, has-right, has-there, in-push}
+use Rattle.mh_link.proofs.walking.Places.{Within, after-first, first-append, first-none, first-same, flat-has, has-append, has-cons, has-flat, has-here, has-left, has-right, has-there, in-push}
 
 -- below, one step down
 pub below-suc : (own : ℕ → List ℕ) (n c : ℕ) → below own (suc n) c ≡ with_below own n (own c)

@@ -6,8 +6,8 @@ use Rattle.mh_link.specs.Named.{Constants, AreConstJobs}
 use Rattle.mh_link.specs.Depth.{depth, most_depth}
 use Rattle.mh_link.specs.Constants.{Serials, serial_at, const_under, values, values_of}
 use Rattle.mh_link.specs.Asking.{asked_by}
-use Rattle.mh_link.proofs.Depths.{depth-falls, depth-small, depth-some}
-use Rattle.mh_link.proofs.Asked.{agree-each, looks-at, under-same}
+use Rattle.mh_link.proofs.constants.Depths.{depth-falls, depth-small, depth-some}
+use Rattle.mh_link.proofs.constants.Asked.{agree-each, looks-at, under-same}
 
 map-same : {A B : Type 0} (f g : A → B) (o : Option A) → ((x : A) → f x ≡ g x) → option_map f o ≡ option_map g o
 map-same f g None same = refl

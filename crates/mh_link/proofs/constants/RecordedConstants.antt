@@ -5,8 +5,8 @@ use Rattle.mh_link.specs.Resolved.{Found}
 use Rattle.mh_link.specs.Named.{Constants, AreConstJobs}
 use Rattle.mh_link.specs.Constants.{Serials, serial_at, const_under, values_of}
 use Rattle.mh_link.specs.RecordedConstants.{AreRecorded, IsRecorded}
-use Rattle.mh_link.proofs.Asked.{under-same}
-use Rattle.mh_link.proofs.FixedPoint.{only}
+use Rattle.mh_link.proofs.constants.Asked.{under-same}
+use Rattle.mh_link.proofs.constants.FixedPoint.{only}
 
 pub recorded-are : (run : Constants) → AreConstJobs run → (table : Serials) (found : Found) → AreRecorded run table found →
     (c : ℕ) → found c ≡ values_of run table c

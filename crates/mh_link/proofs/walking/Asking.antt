@@ -11,11 +11,11 @@ use Rattle.mh_link.specs.Constants.{Serials, serial_at, const_under, values_of}
 use Rattle.mh_link.specs.Asking.{asked_of_call, asked_by, below, with_below, asks, asked_by_all}
 use Rattle.mh_link.specs.Walks.{walked, IsClosed}
 use Rattle.mh_link.specs.Completed.{AgreeAt, HaveSerials, completed}
-use Rattle.mh_link.proofs.Places.{first-append, first-twice, flat-has, has-cons, has-here, has-there, in-first}
-use Rattle.mh_link.proofs.Walks.{below-same, below-seen, below-stays, below-suc, closed-all, notes, with-below-same, with-closed}
-use Rattle.mh_link.proofs.Asked.{agree-each, rank-falls, rank-small, under-same}
-use Rattle.mh_link.proofs.FixedPoint.{fixed}
-use Rattle.mh_link.proofs.Resolving.{resolving}
+use Rattle.mh_link.proofs.walking.Places.{first-append, first-twice, flat-has, has-cons, has-here, has-there, in-first}
+use Rattle.mh_link.proofs.walking.Walks.{below-same, below-seen, below-stays, below-suc, closed-all, notes, with-below-same, with-closed}
+use Rattle.mh_link.proofs.constants.Asked.{agree-each, rank-falls, rank-small, under-same}
+use Rattle.mh_link.proofs.constants.FixedPoint.{fixed}
+use Rattle.mh_link.proofs.constants.Resolving.{resolving}
 
 -- what a call looks at depends on what is found of that alone
 pub asked-same : (found other : Found) (call : OrThrown StaticArguments) → Agree found other (asked_of_call found call) →

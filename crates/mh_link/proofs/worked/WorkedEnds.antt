@@ -10,7 +10,7 @@ use Rattle.mh_script.specs.declared.operand.ValueOperand.TheVariants as of_value
 use Rattle.mh_script.specs.declared.script.End.TheVariants as end
 use Rattle.mh_link.specs.Linked.{Error}
 use Rattle.mh_jobs.specs.Thrown.{no_class_def_found_class}
-use Rattle.mh_link.proofs.Host.{links, failed}
+use Rattle.mh_link.proofs.worked.Host.{links, failed}
 
 what_is_no_throwable_is_not_raised :
     links (codes "()V") [] (end.Raise (codes "demo/Host") (codes "hello"))

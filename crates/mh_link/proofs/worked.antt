@@ -1,0 +1,14 @@
+pub mod Host
+pub mod HostLeaves
+pub mod CallsOfSites
+mod WorkedAdapters
+mod WorkedBranchCalls
+mod WorkedCalls
+mod WorkedConcatenations
+mod WorkedConstants
+mod WorkedEndings
+mod WorkedEnds
+mod WorkedLines
+mod WorkedNodes
+mod WorkedOperands
+mod WorkedRows
