@@ -19,8 +19,8 @@ get-some [] n a h k = absurd (omega arith)
 get-some (x ∷ xs) zero a h k = ap Some (sym (k a))
 get-some (x ∷ xs) (suc n) a h k = get-some xs n a (omega arith) k
 
-pub drop_all : {A : Type 0} (xs : List A) (i : ℕ) → length xs ≤ i → drop i xs ≡ []
-drop_all xs i past = nil_from_length (drop i xs) (length-drop i xs ∙ omega (arith, past))
+pub drop-all : {A : Type 0} (xs : List A) (i : ℕ) → length xs ≤ i → drop i xs ≡ []
+drop-all xs i past = nil_from_length (drop i xs) (length-drop i xs ∙ omega (arith, past))
 
 -- a static argument that is there
 pub argument-content : (leaves : LeafTable) (registers : Registers) (frame : Frame) → Hold leaves registers frame → (n : ℕ) (a : Argument) (c : Found) →

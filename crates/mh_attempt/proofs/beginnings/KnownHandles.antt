@@ -85,11 +85,11 @@ uses-among leaves frame (r ∷ rs) =
 
 -- ---- method handles that registers hold
 
-none_there : (c : Content) → ◌≡◌ {A = Option Content} None (Some c) → ⊥
-none_there c h = absurd cc
+none-there : (c : Content) → ◌≡◌ {A = Option Content} None (Some c) → ⊥
+none-there c h = absurd cc
 
-same_handle : (t u : Tree) → ◌≡◌ {A = Content} (handle t) (handle u) → t ≡ u
-same_handle t u h = cc
+same-handle : (t u : Tree) → ◌≡◌ {A = Content} (handle t) (handle u) → t ≡ u
+same-handle t u h = cc
 
 -- the latest assignment, or one before it
 latest : (leaves : LeafTable) (known : List (List Key)) (first : Content) (before : Option Content) (b : Bool) (c : Content) → IsKnown leaves known first →
@@ -99,14 +99,14 @@ latest leaves known first before false c is others h = others c h
 
 last-known : (leaves : LeafTable) (known : List (List Key)) (name : List ℕ) (assigned : List (List ℕ × Content)) (c : Content) →
     AreKnown leaves known assigned → last_assigned name assigned ≡ Some c → IsKnown leaves known c
-last-known leaves known name [] c are h = absurd (none_there c h)
+last-known leaves known name [] c are h = absurd (none-there c h)
 last-known leaves known name (a ∷ assigned) c are h =
     latest leaves known a.1 (last_assigned name assigned) (bytes_eq a.0 name) c are.0 (λ d there. last-known leaves known name assigned d are.1 there) h
 
 argument-known : (leaves : LeafTable) (known : List (List Key)) (o : Option Argument) (t : Tree) → option_map content_of o ≡ Some (handle t) →
     AreAmong (beginnings (recipe leaves t)) (known ++ recipes_of leaves (leaf_among o))
 argument-known leaves known (Some (argument.Leaf l)) t h =
-    let is = same_handle (tree.Leaf l) t (some_is (handle (tree.Leaf l)) (handle t) h) in
+    let is = same-handle (tree.Leaf l) t (some_is (handle (tree.Leaf l)) (handle t) h) in
     subst (λ u. AreAmong (beginnings (recipe leaves u)) (known ++ recipe leaves (tree.Leaf l) ∷ [])) is
     (among-among (beginnings (recipe leaves (tree.Leaf l))) (recipe leaves (tree.Leaf l) ∷ []) (known ++ recipe leaves (tree.Leaf l) ∷ [])
     (leaf-among leaves l) (among-last known (recipe leaves (tree.Leaf l) ∷ [])))

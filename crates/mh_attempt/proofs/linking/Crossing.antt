@@ -25,8 +25,8 @@ use Rattle.mh_attempt.specs.contracts.linkage.Linked as Linked
 
 -- ---- fields, which may be bodies with fields of their own
 
-bound_send : (ℓ : NamedLft) → IsSend (Bound.the_field ℓ).row
-bound_send ℓ =
+bound-send : (ℓ : NamedLft) → IsSend (Bound.the_field ℓ).row
+bound-send ℓ =
     let a = slot.the_field_send in let b = slot.the_field_sync in
     let c = leaf.the_field_send in let d = leaf.the_field_sync in
     let e = class.the_field_send in let f = class.the_field_sync in
@@ -37,8 +37,8 @@ bound_send ℓ =
     let o = body.the_sync in
     search (crosses_both, crosses, sendable) depth 20
 
-bound_sync : (ℓ : NamedLft) → IsSync (Bound.the_field ℓ).row
-bound_sync ℓ =
+bound-sync : (ℓ : NamedLft) → IsSync (Bound.the_field ℓ).row
+bound-sync ℓ =
     let a = slot.the_field_send in let b = slot.the_field_sync in
     let c = leaf.the_field_send in let d = leaf.the_field_sync in
     let e = class.the_field_send in let f = class.the_field_sync in
@@ -51,42 +51,42 @@ bound_sync ℓ =
 
 -- ---- handles, by what was shown of their parts, since a search that goes down through them all runs out of steps
 
-handle_send : (ℓ : NamedLft) → IsSend (Handle.the_row ℓ)
-handle_send ℓ =
+handle-send : (ℓ : NamedLft) → IsSend (Handle.the_row ℓ)
+handle-send ℓ =
     let t = method_type.the_send in let u = method_type.the_sync in
     let f = form.the_sync in
-    let b = bound_send ℓ in
+    let b = bound-send ℓ in
     search (shared.the_send, crosses, sendable) depth 20
 
-handle_sync : (ℓ : NamedLft) → IsSync (Handle.the_row ℓ)
-handle_sync ℓ =
+handle-sync : (ℓ : NamedLft) → IsSync (Handle.the_row ℓ)
+handle-sync ℓ =
     let t = method_type.the_send in let u = method_type.the_sync in
     let f = form.the_sync in
-    let b = bound_sync ℓ in
+    let b = bound-sync ℓ in
     search (shared.the_sync, crosses, sendable) depth 20
 
 -- ---- linkages
 
-linked_send : (ℓ : NamedLft) → IsSend (Linked.the_field ℓ).row
-linked_send ℓ =
-    let h = handle_send ℓ in
+linked-send : (ℓ : NamedLft) → IsSend (Linked.the_field ℓ).row
+linked-send ℓ =
+    let h = handle-send ℓ in
     let e = exception.the_send in
     search (crosses, sendable) depth 20
 
-linked_sync : (ℓ : NamedLft) → IsSync (Linked.the_field ℓ).row
-linked_sync ℓ =
-    let h = handle_sync ℓ in
+linked-sync : (ℓ : NamedLft) → IsSync (Linked.the_field ℓ).row
+linked-sync ℓ =
+    let h = handle-sync ℓ in
     let e = exception.the_sync in
     search (crosses, sendable) depth 20
 
-pub linkage_send : (ℓ : NamedLft) (R : RattleType) (g : Ghosts R.Denot) → IsSend R → IsSync R → IsSend (Linkage.the_row ℓ R g)
-linkage_send ℓ R g send sync =
+pub linkage-send : (ℓ : NamedLft) (R : RattleType) (g : Ghosts R.Denot) → IsSend R → IsSync R → IsSend (Linkage.the_row ℓ R g)
+linkage-send ℓ R g send sync =
     let j = job.the_sync in
-    let l = linked_send ℓ in
+    let l = linked-send ℓ in
     search (crosses, sendable) depth 20
 
-pub linkage_sync : (ℓ : NamedLft) (R : RattleType) (g : Ghosts R.Denot) → IsSend R → IsSync R → IsSync (Linkage.the_row ℓ R g)
-linkage_sync ℓ R g send sync =
+pub linkage-sync : (ℓ : NamedLft) (R : RattleType) (g : Ghosts R.Denot) → IsSend R → IsSync R → IsSync (Linkage.the_row ℓ R g)
+linkage-sync ℓ R g send sync =
     let j = job.the_sync in
-    let l = linked_sync ℓ in
+    let l = linked-sync ℓ in
     search (crosses, sendable) depth 20

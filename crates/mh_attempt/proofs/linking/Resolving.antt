@@ -25,28 +25,28 @@ joined found a (Ok others) = ap (λ x. Ok x) (sym (append_assoc found (a ∷ [])
 joined found a (Err e) = refl
 
 -- one more argument
-pub next_found : (thrown : Option Exc) (all : List Part) (k : ℕ) (found : List Argument) (a : Argument) →
+pub next-found : (thrown : Option Exc) (all : List Part) (k : ℕ) (found : List Argument) (a : Argument) →
     AreFound thrown all k found → slice_get all k ≡ Some (Known a) → AreFound thrown all (k + 1) (found ++ a ∷ [])
-next_found thrown all k found a are there =
+next-found thrown all k found a are there =
     subst (λ n. AreFound thrown all n (found ++ a ∷ [])) (sym (add-one k))
     (are ∙ ap (λ parts. before_others found (resolved_parts nothing_known thrown parts)) (drop-here all k (Known a) there)
     ∙ joined found a (resolved_parts nothing_known thrown (drop (suc k) all)))
 
 -- a constant ends all
-pub constant_stops : (thrown : Option Exc) (all : List Part) (k : ℕ) (found : List Argument) (c : ℕ) →
+pub constant-stops : (thrown : Option Exc) (all : List Part) (k : ℕ) (found : List Argument) (c : ℕ) →
     AreFound thrown all k found → slice_get all k ≡ Some (Constant c) → resolved_parts nothing_known thrown all ≡ Err (unsupported (codes "constant"))
-constant_stops thrown all k found c are there =
+constant-stops thrown all k found c are there =
     are ∙ ap (λ parts. before_others found (resolved_parts nothing_known thrown parts)) (drop-here all k (Constant c) there)
 
 -- all parts are resolved
-pub all_found : (thrown : Option Exc) (all : List Part) (k : ℕ) (found : List Argument) → AreFound thrown all k found → k ≡ length all →
+pub all-found : (thrown : Option Exc) (all : List Part) (k : ℕ) (found : List Argument) → AreFound thrown all k found → k ≡ length all →
     resolved_parts nothing_known thrown all ≡ before_others found (at_end thrown)
-all_found thrown all k found are h =
+all-found thrown all k found are h =
     are ∙ ap (λ parts. before_others found (resolved_parts nothing_known thrown parts)) (ap (λ n. drop n all) h ∙ drop-length all)
 
 -- nothing is thrown at the end
-pub none_thrown : (found : List Argument) → before_others found (at_end None) ≡ Ok found
-none_thrown found = ap (λ x. Ok x) (append-nil found)
+pub none-thrown : (found : List Argument) → before_others found (at_end None) ≡ Ok found
+none-thrown found = ap (λ x. Ok x) (append-nil found)
 
 -- how parts are resolved one after the other
-pub ruleset resolving = (next_found, constant_stops, all_found, none_thrown)
+pub ruleset resolving = (next-found, constant-stops, all-found, none-thrown)

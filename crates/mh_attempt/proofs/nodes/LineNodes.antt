@@ -64,8 +64,8 @@ unmade-node old new t own (FormsFull drawn) is h = (t, typed-is old.leaves.now t
 unmade-node old new t own (TypesFull bucket) is h = (t, typed-is old.leaves.now t own is)
 unmade-node old new t own (Refused e) is h = absurd h
 
-is_refused : (own : MethodTy) (e : Exc) (m : TypeOrRefusal) → m ≡ Ok own → m ≡ Err e → ⊥
-is_refused own e m h k = absurd cc
+is-refused : (own : MethodTy) (e : Exc) (m : TypeOrRefusal) → m ≡ Ok own → m ≡ Err e → ⊥
+is-refused own e m h k = absurd cc
 
 -- the handle that a combinator makes by its rule, after the work went on
 pub made-node : (old mid new : Work) (t : Tree) (own : MethodTy) (rule : TypeOrRefusal) (r : Result Handle HandleError) → mid.leaves ≡ old.leaves →
@@ -76,7 +76,7 @@ made-node old mid new t own rule (Ok h) same is by obeys stands =
 made-node old mid new t own rule (Err NoMemory) same is by obeys stands = tt
 made-node old mid new t own rule (Err (FormsFull drawn)) same is by obeys stands = (t, typed-is old.leaves.now t own is)
 made-node old mid new t own rule (Err (TypesFull bucket)) same is by obeys stands = (t, typed-is old.leaves.now t own is)
-made-node old mid new t own rule (Err (Refused e)) same is by obeys stands = absurd (is_refused own e rule (sym by ∙ is) obeys)
+made-node old mid new t own rule (Err (Refused e)) same is by obeys stands = absurd (is-refused own e rule (sym by ∙ is) obeys)
 
 -- a handle stands for its tree still
 pub stands-yet : (old mid : Work) (h : HandleView) (t : Tree) → mid.leaves ≡ old.leaves → Stands old.leaves.now h t → Stands mid.leaves.now h t

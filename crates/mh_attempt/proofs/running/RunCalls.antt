@@ -19,9 +19,9 @@ use Rattle.mh_attempt.proofs.types.Replacing.{replaces-back, replaces-held, repl
 use Rattle.mh_attempt.specs.Asked.{attempt_draws}
 
 -- registers that held nothing before
-from_none : (before : Registers) (came : List HoldView) (old new : Work) → before.assigned.items ≡ [] → Replaces (holds_in before.assigned.items) came old new →
+from-none : (before : Registers) (came : List HoldView) (old new : Work) → before.assigned.items ≡ [] → Replaces (holds_in before.assigned.items) came old new →
     Replaces [] came old new
-from_none before came old new none x = subst (λ l. Replaces (holds_in l) came old new) none x
+from-none before came old new none x = subst (λ l. Replaces (holds_in l) came old new) none x
 
 -- what they hold then, the seat holds for them
 pub called-kept : (before after : Registers) (old new : Work) (r : Result Handle HandleError) → AreHeldBy old.seat.now before →
@@ -35,10 +35,10 @@ called-kept before after old new (Err error) kept x = replaces-held (holds_in be
 pub called-adds : (before after : Registers) (old mid new : Work) (r : Result Handle HandleError) → before.assigned.items ≡ [] → AreHeldBy old.seat.now before →
     ReplacesTypes before after old mid r → Exchanges [] (holds_in after.assigned.items) [] mid.seat.now new.seat.now → AddsTypes old new r
 called-adds before after old mid new (Ok h) none kept x back =
-    from_none before h.held old new none
+    from-none before h.held old new none
     (replaces-back (holds_in before.assigned.items) (holds_in after.assigned.items) h.held old mid new kept x back)
 called-adds before after old mid new (Err error) none kept x back =
-    from_none before [] old new none
+    from-none before [] old new none
     (replaces-then (holds_in before.assigned.items) (holds_in after.assigned.items) [] old mid new x ([], back))
 
 pub called-goes_on : (script : Script) (steps : List Step) (registers : Registers) (old mid new : Work) → steps ≡ script.steps → CanRun script →

@@ -29,7 +29,7 @@ use Rattle.mh_runtime.specs.Passes.{LinkPass}
 use Rattle.mh_runtime.proofs.ledger.Numbers.{number-within, serial-within}
 use Rattle.mh_runtime.proofs.ledger.Owners.{IsThread, attempts_in, reached, thread-of}
 use Rattle.mh_runtime.proofs.ledger.Parts.{part-in}
-use Rattle.mh_runtime.proofs.ledger.Places.{place-Contains, range-from}
+use Rattle.mh_runtime.proofs.ledger.Places.{place-contains, range-from}
 
 -- ---- lists of lists
 
@@ -71,7 +71,7 @@ among-named p edits naming attempts most named there =
     let a : Attempt = found.0 in
     let is = named a found.1 in
     in-flat p (λ sites. flat_map (λ site. flat_map (λ serial. edits site serial) (range_with_len 1 most)) sites) naming is.0.0
-    (place-Contains naming a.thread is.0.0 is.0.1)
+    (place-contains naming a.thread is.0.0 is.0.1)
     (in-flat p (λ site. flat_map (λ serial. edits site serial) (range_with_len 1 most)) is.0.0 a.site is.0.2
     (in-flat p (λ serial. edits a.site serial) (range_with_len 1 most) a.serial (in-range most a.serial is.1 is.2) found.2))
 
@@ -95,7 +95,7 @@ module _ (given : Given) (threads : List (List Call)) (all : List ThreadPasses) 
         (reached given threads all used a whole, within.0, within.1)) there))
         (both-among before (thread_edits given.leaves is.calls) (all_edits given threads) among
         (λ q there. among-first calls sites q
-        (in-flat (same_recipe q) (λ cs. thread_edits given.leaves cs) threads is.calls (place-Contains threads thread is.calls is.named) there)))
+        (in-flat (same_recipe q) (λ cs. thread_edits given.leaves cs) threads is.calls (place-contains threads thread is.calls is.named) there)))
 
     -- so it draws at most one number for each form that the run can need
     pub draws-few : HaveDrawnFew given before threads all → (thread : ℕ) (passes : ThreadPasses) → slice_get all thread ≡ Some passes →

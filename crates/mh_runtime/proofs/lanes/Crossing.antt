@@ -13,7 +13,7 @@ use Rattle.mh_intern.proofs.seat.TypeSeat.TheSendSync as types
 use Rattle.mh_intern.proofs.table.TypeTable.TheSendSync as type_table
 use Rattle.mh_leaves.proofs.leaves.Leaves.TheSendSync as leaves
 use Rattle.mh_jobs.specs.declared.run.Run.{Ghosts}
-use Rattle.mh_attempt.proofs.linking.Crossing.{linkage_send, linkage_sync}
+use Rattle.mh_attempt.proofs.linking.Crossing.{linkage-send, linkage-sync}
 use Rattle.mh_attempt.proofs.error.WorkError.TheSendSync as error
 use Rattle.mh_report.proofs.attempt.Attempt.TheSendSync as attempt
 use Rattle.mh_base.proofs.seq.Seq.TheSendSync as seq
@@ -34,15 +34,15 @@ use Rattle.mh_runtime.specs.contracts.stops.ThreadRun as ThreadRun
 
 -- ---- passes, by what was shown of their parts, since a search that goes down through them all runs out of steps
 
-known_send : (s t : NamedLft) (R : RattleType) (g : Ghosts R.Denot) → IsSend R → IsSync R → IsSend (KnownSites.the_row s t R g)
-known_send s t R g send sync =
-    let l = linkage_send t R g send sync in
-    let m = linkage_sync t R g send sync in
+known-send : (s t : NamedLft) (R : RattleType) (g : Ghosts R.Denot) → IsSend R → IsSync R → IsSend (KnownSites.the_row s t R g)
+known-send s t R g send sync =
+    let l = linkage-send t R g send sync in
+    let m = linkage-sync t R g send sync in
     search (known.the_send, crosses, sendable) depth 40
 
-pub links_send : (s t : NamedLft) (R : RattleType) (g : Ghosts R.Denot) → IsSend R → IsSync R → IsSend (SitePass.the_row s t R g)
-links_send s t R g send sync =
-    let k = known_send s t R g send sync in
+pub links-send : (s t : NamedLft) (R : RattleType) (g : Ghosts R.Denot) → IsSend R → IsSync R → IsSend (SitePass.the_row s t R g)
+links-send s t R g send sync =
+    let k = known-send s t R g send sync in
     let a = attempt.the_send in
     let e = seat.the_send in
     search (crosses, sendable) depth 20
@@ -50,55 +50,55 @@ links_send s t R g send sync =
 -- a pass, for a thread that is given it; and as a field of what has one
 pub pass-send : (s t : NamedLft) (R : RattleType) (g : Ghosts R.Denot) → IsSend R → IsSync R → IsSend (Pass.the_row s t R g)
 pass-send s t R g send sync =
-    let l = links_send s t R g send sync in
+    let l = links-send s t R g send sync in
     let f = form_pass_send t in
     let h = types.the_send in
     search (crosses, sendable) depth 20
 
-pass_field_send : (s t : NamedLft) (R : RattleType) (g : Ghosts R.Denot) → IsSend R → IsSync R → IsSend (Pass.the_field s t R g).row
-pass_field_send s t R g send sync =
-    let l = links_send s t R g send sync in
+pass-field-send : (s t : NamedLft) (R : RattleType) (g : Ghosts R.Denot) → IsSend R → IsSync R → IsSend (Pass.the_field s t R g).row
+pass-field-send s t R g send sync =
+    let l = links-send s t R g send sync in
     let f = form_pass_send t in
     let h = types.the_send in
     search (crosses, sendable) depth 20
 
 -- what the calls of a thread gave, as a field
-run_field_send : IsSend ThreadRun.the_field.row
-run_field_send =
+run-field-send : IsSend ThreadRun.the_field.row
+run-field-send =
     let a = seq.the_send Answer.the_row answer-send in
     let e = error.the_send in
     search (crosses, sendable) depth 20
 
 -- ---- lanes
 
-pub lane_send : (s t : NamedLft) (R : RattleType) (g : Ghosts R.Denot) → IsSend R → IsSync R → IsSend (Lane.the_row s t R g)
-lane_send s t R g send sync =
+pub lane-send : (s t : NamedLft) (R : RattleType) (g : Ghosts R.Denot) → IsSend R → IsSync R → IsSend (Lane.the_row s t R g)
+lane-send s t R g send sync =
     let lane = Lane.the_type s t R g in
     let fields = shape lane in
     let c = seq.the_sync Call.the_row call.the_sync in
-    let ran = run_field_send in
+    let ran = run-field-send in
     let parts : AllSend fields.fields =
-    (pass_field_send s t R g send sync, (search (crosses, sendable) depth 20, (search (crosses, sendable) depth 20, tt))) in
+    (pass-field-send s t R g send sync, (search (crosses, sendable) depth 20, (search (crosses, sendable) depth 20, tt))) in
     recorded_send (Struct fields) lane.D lane.to lane.to_one (struct_send fields parts)
 
 -- ---- what threads share
 
-sites_sync : (t : NamedLft) (R : RattleType) (g : Ghosts R.Denot) → IsSend R → IsSync R → IsSync (SiteLinker.the_row t R g)
-sites_sync t R g send sync =
-    let l = linkage_send t R g send sync in
-    let m = linkage_sync t R g send sync in
+sites-sync : (t : NamedLft) (R : RattleType) (g : Ghosts R.Denot) → IsSend R → IsSync R → IsSync (SiteLinker.the_row t R g)
+sites-sync t R g send sync =
+    let l = linkage-send t R g send sync in
+    let m = linkage-sync t R g send sync in
     let j = jobs.the_sync in
     let p = scripts.the_sync in
     let k = tickets.the_sync in
     search (cells.the_sync, crosses, sendable) depth 40
 
 -- a linker, which threads share
-pub linker_sync : (t : NamedLft) (R : RattleType) (g : Ghosts R.Denot) → IsSend R → IsSync R → IsSync (Linker.the_row t R g)
-linker_sync t R g send sync =
-    let s = sites_sync t R g send sync in
+pub linker-sync : (t : NamedLft) (R : RattleType) (g : Ghosts R.Denot) → IsSend R → IsSync R → IsSync (Linker.the_row t R g)
+linker-sync t R g send sync =
+    let s = sites-sync t R g send sync in
     let l = leaves.the_sync in
     let y = type_table.the_sync in
     search (table-sync, crosses, sendable) depth 40
 
-pub plan_sync : IsSync (Plan.the_row (Plan.the_row Call.the_row))
-plan_sync = seq.the_sync (Plan.the_row Call.the_row) (seq.the_sync Call.the_row call.the_sync)
+pub plan-sync : IsSync (Plan.the_row (Plan.the_row Call.the_row))
+plan-sync = seq.the_sync (Plan.the_row Call.the_row) (seq.the_sync Call.the_row call.the_sync)

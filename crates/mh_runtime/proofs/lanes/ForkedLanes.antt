@@ -28,7 +28,7 @@ use Rattle.mh_runtime.specs.RunStops.{HasMade, HaveMade}
 use Rattle.mh_runtime.specs.Stops.{end_in}
 use Rattle.mh_runtime.proofs.lanes.JoiningSteps.{joined-push}
 use Rattle.mh_runtime.proofs.lanes.MoreThreads.{few-each, fresh-push, made-push}
-use Rattle.mh_runtime.proofs.ledger.Places.{place-Contains}
+use Rattle.mh_runtime.proofs.ledger.Places.{place-contains}
 
 -- the first items of a list, and the next one
 take-next : {X : Type 0} (xs : List X) (i : ℕ) (x : X) → slice_get xs i ≡ Some x → take (i + 1) xs ≡ take i xs ++ x ∷ []
@@ -107,7 +107,7 @@ module _ {J : Type 0} (given : Given) (base : Pass J) (threads : List (List Call
 
     next-calls : All (IsCallOf given.leaves given.jobs) calls
     next-calls =
-        All-contains (λ cs. All (IsCallOf given.leaves given.jobs) cs) threads calls forked.calls (place-Contains threads (length lanes) calls at)
+        All-contains (λ cs. All (IsCallOf given.leaves given.jobs) cs) threads calls forked.calls (place-contains threads (length lanes) calls at)
 
     -- so there is room for it
     pub can-split : CanSplit old.pass

@@ -16,7 +16,7 @@ use Rattle.mh_runtime.specs.Passes.{HasSerials, LinkPass}
 use Rattle.mh_runtime.proofs.ledger.Ordered.{in-all, in-ordered, serials-rise, thread-sites}
 use Rattle.mh_runtime.proofs.ledger.Owners.{IsThread, attempts_in, owner, passes-of, reached, thread-of}
 use Rattle.mh_runtime.proofs.ledger.Parts.{map-at}
-use Rattle.mh_runtime.proofs.ledger.Places.{place-Contains}
+use Rattle.mh_runtime.proofs.ledger.Places.{place-contains}
 use Rattle.mh_runtime.proofs.ledger.Rising.{apart-in}
 use Rattle.mh_runtime.proofs.sites.Sites.{is_in}
 
@@ -60,7 +60,7 @@ module _ (given : Given) (threads : List (List Call)) (all : List ThreadPasses) 
       (All-contains (λ k. IsSome (serial_at own.0.links.linked k)) (flat_map sites_named found.0) site linked
       (subst (λ ks. Contains ks site) (sym found.2) h.3)) in
       ap is_some (All-contains (λ (p : ThreadPasses). HasSerials p.links.linked table) all own.0
-      (has-serials all joined sites table is_joined is) (place-Contains all h.0 own.0 own.1) site some.0 some.1)
+      (has-serials all joined sites table is_joined is) (place-contains all h.0 own.0 own.1) site some.0 some.1)
 
   -- and the other way round
   linked-named : (site : ℕ) → is_some (serial_at table site) ≡ true → IsNamed (naming_of threads) site

@@ -6,8 +6,8 @@ use Rattle.std.proofs.lemmas.Option.{get_or_from_slice_get, slice_get_within}
 
 -- ---- items
 
-pub place-Contains : {A : Type 0} (xs : List A) (i : ℕ) (x : A) → slice_get xs i ≡ Some x → Contains xs x
-place-Contains xs i x is = (i, slice_get_within xs i x is, get_or_from_slice_get xs i x x is)
+pub place-contains : {A : Type 0} (xs : List A) (i : ℕ) (x : A) → slice_get xs i ≡ Some x → Contains xs x
+place-contains xs i x is = (i, slice_get_within xs i x is, get_or_from_slice_get xs i x x is)
 
 -- ---- numbers in order
 

@@ -7,7 +7,7 @@ use Rattle.mh_plan.specs.Naming.{first_places}
 use Rattle.mh_report.specs.declared.attempt.Attempt.{Attempt}
 use Rattle.mh_runtime.specs.Attempts.{IsThreadRun, sites_of}
 use Rattle.mh_runtime.specs.Passes.{LinkPass}
-use Rattle.mh_runtime.proofs.sites.Sites.{Contains-in, first-push, in-Contains, is_in}
+use Rattle.mh_runtime.proofs.sites.Sites.{contains-in, first-push, in-contains, is_in}
 
 module _ (sites : List ℕ) (x : ℕ) (pass : LinkPass) (run : IsThreadRun sites pass) where
   abbrev made : ℕ → Bool
@@ -16,9 +16,9 @@ module _ (sites : List ℕ) (x : ℕ) (pass : LinkPass) (run : IsThreadRun sites
   -- a thread attempts only what it names
   pub own-sites : is_in sites x ≡ false → made x ≡ false
   own-sites none = false_from_ne_true (made x) (λ there.
-      both_ways (is_in sites x) none (Contains-in sites x
+      both_ways (is_in sites x) none (contains-in sites x
       (All-contains (Contains sites) (sites_of pass.attempts) x (All-map (Contains sites) (λ (a : Attempt). a.site) pass.attempts run.reached)
-      (in-Contains (sites_of pass.attempts) x there))))
+      (in-contains (sites_of pass.attempts) x there))))
 
   one-named : IsThreadRun (sites ++ x ∷ []) pass
   one-named = record {

@@ -14,12 +14,12 @@ is_in sites k = list_any (λ s. s == k) sites
 pub in-push : (sites : List ℕ) (x k : ℕ) → is_in (sites ++ x ∷ []) k ≡ (is_in sites k || (x == k))
 in-push sites x k = list_any-append (λ s. s == k) sites (x ∷ []) ∙ ap (λ b. is_in sites k || b) (or_false (x == k))
 
-pub Contains-in : (sites : List ℕ) (k : ℕ) → Contains sites k → is_in sites k ≡ true
-Contains-in sites k h = list_any_at (λ s. s == k) sites h.0 k h.1 (eq-eqb _ _ h.2)
+pub contains-in : (sites : List ℕ) (k : ℕ) → Contains sites k → is_in sites k ≡ true
+contains-in sites k h = list_any_at (λ s. s == k) sites h.0 k h.1 (eq-eqb _ _ h.2)
 
-pub in-Contains : (sites : List ℕ) (k : ℕ) → is_in sites k ≡ true → Contains sites k
-in-Contains [] k none = cc
-in-Contains (s ∷ sites) k there = cases (s == k) refl there (in-Contains sites k)
+pub in-contains : (sites : List ℕ) (k : ℕ) → is_in sites k ≡ true → Contains sites k
+in-contains [] k none = cc
+in-contains (s ∷ sites) k there = cases (s == k) refl there (in-contains sites k)
   where
     cases : (b : Bool) → (s == k) ≡ b → (b || is_in sites k) ≡ true → (is_in sites k ≡ true → Contains sites k) → Contains (s ∷ sites) k
     cases true same h rest = (0, omega arith, eqb-true s k same)

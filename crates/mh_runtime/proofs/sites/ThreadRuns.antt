@@ -11,12 +11,12 @@ use Rattle.mh_report.specs.declared.attempt.Attempt.{Attempt}
 use Rattle.mh_report.specs.Results.{Serials, serial_at}
 use Rattle.mh_runtime.specs.Attempts.{AreLinked, IsThreadRun, sites_of}
 use Rattle.mh_runtime.specs.Passes.{LinkPass}
-use Rattle.mh_runtime.proofs.sites.Sites.{is_in, Contains-in, first-push, first-within, in-Contains, in-push, kept-other}
+use Rattle.mh_runtime.proofs.sites.Sites.{is_in, contains-in, first-push, first-within, in-contains, in-push, kept-other}
 
 -- a site that is not linked is none of those that are
 pub not-linked : (linked : Serials) (sites : List ℕ) (x : ℕ) → AreLinked linked sites → serial_at linked x ≡ None → is_in sites x ≡ false
 not-linked linked sites x all none = false_from_ne_true (is_in sites x) (λ there.
-    let some : IsSome (serial_at linked x) = All-contains (λ site. IsSome (serial_at linked site)) sites x all (in-Contains sites x there) in
+    let some : IsSome (serial_at linked x) = All-contains (λ site. IsSome (serial_at linked site)) sites x all (in-contains sites x there) in
     let none_some : is_some (serial_at linked x) ≡ false = ap is_some none in
     absurd cc)
 
@@ -30,8 +30,8 @@ module _ (sites : List ℕ) (x : ℕ) (old new : LinkPass) (run : IsThreadRun si
   none-made none = false_from_ne_true (made x) (λ there.
       let named : Contains sites x =
       All-contains (Contains sites) (sites_of old.attempts) x (All-map (Contains sites) (λ (a : Attempt). a.site) old.attempts run.reached)
-      (in-Contains (sites_of old.attempts) x there) in
-      both_ways (is_in sites x) none (Contains-in sites x named))
+      (in-contains (sites_of old.attempts) x there) in
+      both_ways (is_in sites x) none (contains-in sites x named))
 
   -- ---- nothing more is attempted
 
@@ -78,7 +78,7 @@ module _ (sites : List ℕ) (x : ℕ) (old new : LinkPass) (run : IsThreadRun si
     sites-apart = all_pairs_push (λ (a b : Attempt). a.site ≢ b.site) old.attempts begun run.apart (λ k d low same.
         let named : Contains sites x =
         subst (Contains sites) same (All-get_or (λ (a : Attempt). Contains sites a.site) old.attempts k d low run.reached) in
-        both_ways (is_in sites x) none (Contains-in sites x named))
+        both_ways (is_in sites x) none (contains-in sites x named))
 
     order-more : sites_of after ≡ filter (is_in (sites_of after)) (first_places [] (sites ++ x ∷ []))
     order-more =

@@ -23,7 +23,7 @@ use Rattle.mh_runtime.proofs.forms.Needed.{among-named, in-flat, of-flat}
 use Rattle.mh_runtime.proofs.ledger.Numbers.{serial-within}
 use Rattle.mh_runtime.proofs.ledger.Owners.{attempts_in, reached}
 use Rattle.mh_runtime.proofs.ledger.Parts.{at-map, part-in}
-use Rattle.mh_runtime.proofs.ledger.Places.{place-Contains}
+use Rattle.mh_runtime.proofs.ledger.Places.{place-contains}
 use Rattle.mh_runtime.proofs.types.TypeLists.{any-turned, counted-any, is_one}
 
 -- where one number is 0 only with another one, it is more where the other one is
@@ -62,7 +62,7 @@ module _ {J : Type 0} (given : Given) (lanes : List (Lane J)) (used : AreUsed gi
     called-among : list_any p (thread_types given.leaves lane.calls.now) ≡ true → list_any p called ≡ true
     called-among there =
         in-flat p (λ cs. thread_types given.leaves cs) (calls_of lanes) lane.calls.now
-        (place-Contains (calls_of lanes) at.0 lane.calls.now (at-map (λ (l : Lane J). l.calls.now) lanes at.0 lane place)) there
+        (place-contains (calls_of lanes) at.0 lane.calls.now (at-map (λ (l : Lane J). l.calls.now) lanes at.0 lane place)) there
 
     -- and all of them
     lane-among : list_any p (run_types given lane.pass.links.attempts (thread_types given.leaves lane.calls.now)) ≡ true →

@@ -69,7 +69,7 @@ use Rattle.mh_runtime.proofs.forms.Needed.{in-flat, of-flat}
 use Rattle.mh_runtime.proofs.ledger.Numbers.{number-within}
 use Rattle.mh_runtime.proofs.ledger.Owners.{thread-of}
 use Rattle.mh_runtime.proofs.ledger.Parts.{at-map, in-part, map-at, part-in}
-use Rattle.mh_runtime.proofs.ledger.Places.{place-Contains}
+use Rattle.mh_runtime.proofs.ledger.Places.{place-contains}
 use Rattle.mh_runtime.proofs.ledger.RecordedSites.{serials-recorded}
 use Rattle.mh_runtime.proofs.types.RecordedTypes.{just-instead}
 use Rattle.mh_runtime.proofs.reports.Reports.{full-run, no-slot-run, report-of, stop-run}
@@ -134,7 +134,7 @@ module _ {J : Type 0} (given : Given) (linker : Linker J) (plan : List (List Cal
       ∙ or_left (list_any p (plan_types given.leaves plan)) (list_any p (sites_types given (length given.jobs) (all_sites given)))
       (in-flat p (λ calls. thread_types given.leaves calls) plan lane.calls.now
       (subst (λ threads. Contains threads lane.calls.now) calls_are
-      (place-Contains (calls_of lanes) found.1.0 lane.calls.now (at-map (λ (l : Lane J). l.calls.now) lanes found.1.0 lane at))) own)
+      (place-contains (calls_of lanes) found.1.0 lane.calls.now (at-map (λ (l : Lane J). l.calls.now) lanes found.1.0 lane at))) own)
 
   types-among : (t : MethodTy) → 0 < times_type t joined.pass.types.asked → is_one (types_with given plan) t ≡ true
   types-among t asked =
@@ -157,7 +157,7 @@ module _ {J : Type 0} (given : Given) (linker : Linker J) (plan : List (List Cal
       let own : AreAmong (thread_edits given.leaves calls) (edits_with given plan) =
       λ q there. among-first (plan_edits given.leaves plan) _ q
       (in-flat (same_recipe q) (λ cs. thread_edits given.leaves cs) plan calls
-      (place-Contains plan thread calls (subst (λ threads. slice_get threads thread ≡ Some calls) calls_are named)) there) in
+      (place-contains plan thread calls (subst (λ threads. slice_get threads thread ≡ Some calls) calls_are named)) there) in
       among-among (run_edits given p.links.attempts asked) asked (edits_with given plan)
       (same-among _ _ (ap (λ (made : List Attempt). run_edits given made asked)
       (thread-made-none given linker plan workers base is can lanes joined calls_are so_far thread p at)))
@@ -274,7 +274,7 @@ module _ {J : Type 0} (given : Given) (linker : Linker J) (plan : List (List Cal
         among-last (flat_map (attempt_edits given) run.attempts) (plan_edits given.leaves plan) q
         (in-flat (same_recipe q) (λ calls. thread_edits given.leaves calls) plan lane.calls.now
         (subst (λ threads. Contains threads lane.calls.now) calls_are
-        (place-Contains (calls_of lanes) found.1.0 lane.calls.now (at-map (λ (l : Lane J). l.calls.now) lanes found.1.0 lane at))) own)
+        (place-contains (calls_of lanes) found.1.0 lane.calls.now (at-map (λ (l : Lane J). l.calls.now) lanes found.1.0 lane at))) own)
 
     attempts-from : AreAmong (flat_map (attempt_edits given) run.attempts) all_asked
     attempts-from q there =
@@ -283,7 +283,7 @@ module _ {J : Type 0} (given : Given) (linker : Linker J) (plan : List (List Cal
         let made = from-ordered given linker plan workers base is can lanes joined calls_are so_far run tells a found.1 in
         let part = in-part (λ (w : Worker J). w.pass.links.attempts) is.all a (subst (λ xs. Contains xs a) is.gathered.attempts made) in
         among-first (workers_edits given is.all) (lanes_edits given lanes) q
-        (in-flat (same_recipe q) (λ (w : Worker J). run_edits given w.pass.links.attempts []) is.all part.1 (place-Contains is.all part.0 part.1 part.2)
+        (in-flat (same_recipe q) (λ (w : Worker J). run_edits given w.pass.links.attempts []) is.all part.1 (place-contains is.all part.0 part.1 part.2)
         (among-first (flat_map (attempt_edits given) part.1.pass.links.attempts) [] q
         (in-flat (same_recipe q) (attempt_edits given) part.1.pass.links.attempts a part.3 found.2)))
 
@@ -295,7 +295,7 @@ module _ {J : Type 0} (given : Given) (linker : Linker J) (plan : List (List Cal
         (subst (λ threads. slice_get threads found.1.0 ≡ Some found.0) (sym calls_are) at) in
         among-last (workers_edits given is.all) (lanes_edits given lanes) q
         (in-flat (same_recipe q) (λ (l : Lane J). run_edits given l.pass.links.attempts (thread_edits given.leaves l.calls.now)) lanes lane.0
-        (place-Contains lanes found.1.0 lane.0 lane.1)
+        (place-contains lanes found.1.0 lane.0 lane.1)
         (among-last (flat_map (attempt_edits given) lane.0.pass.links.attempts) (thread_edits given.leaves lane.0.calls.now) q
         (subst (λ calls. list_any (same_recipe q) (thread_edits given.leaves calls) ≡ true) (sym lane.2) found.2)))
 

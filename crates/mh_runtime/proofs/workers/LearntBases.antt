@@ -17,7 +17,7 @@ use Rattle.mh_runtime.specs.Joining.{AreJoinedSoFar, calls_of}
 use Rattle.mh_runtime.specs.Lanes.{AreUnlearnt, HasRun, passes_of}
 use Rattle.mh_runtime.specs.Passes.{LinkPass}
 use Rattle.mh_runtime.proofs.ledger.Owners.{thread-of}
-use Rattle.mh_runtime.proofs.ledger.Places.{place-Contains}
+use Rattle.mh_runtime.proofs.ledger.Places.{place-contains}
 
 -- ---- one lane
 
@@ -65,4 +65,4 @@ no-attempts given base count lanes joined all linked =
         let is = thread-of given (calls_of lanes) (map passes_of lanes) all.used i p at in
         none-made base.links (flat_map sites_named is.calls) p.links.attempts (linked i is.calls is.named) is.used.run.reached
         (All-contains (λ (q : ThreadPasses). AreUnlearnt base.links q.links.attempts) (map passes_of lanes) p all.unlearnt
-        (place-Contains (map passes_of lanes) i p at))
+        (place-contains (map passes_of lanes) i p at))

@@ -24,7 +24,7 @@ use Rattle.mh_runtime.specs.Prelinked.{IsPrelinked, WorkersEnd}
 use Rattle.mh_runtime.specs.Workers.{KnowsSite, Worker}
 use Rattle.mh_runtime.proofs.ledger.Numbers.{contains-map, flat-same, map-flat, number-within}
 use Rattle.mh_runtime.proofs.ledger.Parts.{in-part, part-in}
-use Rattle.mh_runtime.proofs.ledger.Places.{place-Contains}
+use Rattle.mh_runtime.proofs.ledger.Places.{place-contains}
 use Rattle.mh_runtime.proofs.ledger.Serials.{contains-times, is_it, times-cons, times-contains}
 use Rattle.mh_runtime.proofs.workers.WorkerSteps.{knows-still}
 
@@ -237,7 +237,7 @@ module _ {J : Type 0} (given : Given) (linker : Linker J) (threads workers : ℕ
       let taken : Contains (all_taken is.all) site = times-contains site (all_taken is.all) (let one = is.every none site within in omega (arith, one)) in
       let found = in-part (λ (w : Worker J). w.taken) is.all site taken in
       let ends = subst (WorkersEnd given is.all state.pass) none is.gathered.ends in
-      let there : Contains is.all found.1 = place-Contains is.all found.0 found.1 found.2 in
+      let there : Contains is.all found.1 = place-contains is.all found.0 found.1 found.2 in
       let linked = All-contains (λ (w : Worker J). AreLinked w.pass.links.linked w.taken) is.all found.1 ends.0 there in
       knows-still site found.1.pass state.pass
       (All-contains (λ (w : Worker J). HasSerials w.pass.links.linked state.pass.links.linked) is.all found.1 is.gathered.linked there)

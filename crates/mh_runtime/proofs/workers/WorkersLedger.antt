@@ -33,7 +33,7 @@ use Rattle.mh_runtime.specs.Report.{TellsRun}
 use Rattle.mh_runtime.specs.Workers.{KnowsSite}
 use Rattle.mh_runtime.proofs.workers.LearntBases.{flat-none, no-attempts, none-made}
 use Rattle.mh_runtime.proofs.ledger.Owners.{thread-of}
-use Rattle.mh_runtime.proofs.ledger.Places.{place-Contains}
+use Rattle.mh_runtime.proofs.ledger.Places.{place-contains}
 use Rattle.mh_runtime.proofs.ledger.RecordedSites.{serials-recorded}
 use Rattle.mh_runtime.proofs.ledger.Serials.{in-order, is_it}
 use Rattle.mh_runtime.proofs.workers.TakenSites.{all-known, of-site, of-worker, once-apart, serials-drawn, serials-once, serials-whole, sites-once}
@@ -72,7 +72,7 @@ module _ {J : Type 0} (given : Given) (linker : Linker J) (plan : List (List Cal
   named-linked thread calls at =
       calls-linked given.leaves given.jobs base.links.linked base-known calls
       (All-contains (λ cs. All (IsCallOf given.leaves given.jobs) cs) plan calls can
-      (place-Contains plan thread calls (subst (λ threads. slice_get threads thread ≡ Some calls) calls_are at)))
+      (place-contains plan thread calls (subst (λ threads. slice_get threads thread ≡ Some calls) calls_are at)))
 
   -- so no thread attempts a site
   pub thread-made-none : (thread : ℕ) (p : ThreadPasses) → slice_get (map passes_of lanes) thread ≡ Some p → p.links.attempts ≡ []
@@ -80,7 +80,7 @@ module _ {J : Type 0} (given : Given) (linker : Linker J) (plan : List (List Cal
       let of = thread-of given (calls_of lanes) (map passes_of lanes) so_far.used thread p at in
       none-made base.links (flat_map sites_named of.calls) p.links.attempts (named-linked thread of.calls of.named) of.used.run.reached
       (All-contains (λ (q : ThreadPasses). AreUnlearnt base.links q.links.attempts) (map passes_of lanes) p so_far.unlearnt
-      (place-Contains (map passes_of lanes) thread p at))
+      (place-contains (map passes_of lanes) thread p at))
 
   -- all attempts are those of the workers
   pub attempts-same : joined.pass.links.attempts ≡ base.links.attempts

@@ -1,7 +1,7 @@
 use Rattle.std.proofs.Common.{◌<◌, ◌≤◌, ◌+◌, refl, sym, subst, drop, length, arith, rules}
 use Rattle.mh_base.proofs.Lists.{drop_item}
 use Rattle.mh_script.specs.Limits.{CanDivide}
-use Rattle.mh_attempt.proofs.assigned.RegisterContents.{drop_all}
+use Rattle.mh_attempt.proofs.assigned.RegisterContents.{drop-all}
 use Rattle.mh_attempt.proofs.running.RunEnds.{run-ends}
 use Rattle.mh_attempt.proofs.running.RunFails.{run-fails}
 use Rattle.mh_attempt.proofs.running.RunLines.{HasRun, run-next, run-none}
@@ -94,6 +94,6 @@ returns g c =
     let last = c.run_end.ensures in
     run-ends i steps c.args.end.now c.args.registers.now c.loop-step.registers c.args.w.now c.loop-step.w c.run_end.new.w c.run_end.result
     (omega (arith, within))
-    (subst (λ l. HasRun i steps l c.args.end.now c.args.registers.now c.loop-step.registers c.args.w.now c.loop-step.w) (drop_all steps i past)
+    (subst (λ l. HasRun i steps l c.args.end.now c.args.registers.now c.loop-step.registers c.args.w.now c.loop-step.w) (drop-all steps i past)
     c.loop-step.invariant)
     (record { goes_on = last.goes_on; types = last.types; node = last.node; asks = last.asks; asked = last.asked })
