@@ -5,7 +5,7 @@ ghost use Rattle.mh_handle.specs.Form.{body_of};
 ghost use Rattle.mh_handle.specs.Passes.{IsPassOf};
 
 use crate::edits::{more_ints, root};
-use mh_base::{NoMemory, Seq};
+use mh_base::Seq;
 use mh_handle::{EditError, Form, FormPass, FormTable};
 use std::alloc::Global;
 use std::sync::Wait;

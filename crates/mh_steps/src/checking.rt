@@ -42,7 +42,8 @@ fn check_root(alloc: Global, leaves: &Leaves, root: Root) -> Result<(), Broken> 
             check_type(alloc, leaves, text)?;
             check_value(alloc, leaves, value)
         }
-        Root::Identity(text) | Root::Throw(text, _) => check_type(alloc, leaves, text),
+        Root::Identity(text) => check_type(alloc, leaves, text),
+        Root::Throw(text, _) => check_type(alloc, leaves, text),
         Root::Guard(test, target, fallback) => check_leaves(leaves, &[test, target, fallback]),
         Root::Catch(target, _, handler) => check_leaves(leaves, &[target, handler]),
         Root::Switch(fallback, cases) => check_switch(leaves, fallback, cases),

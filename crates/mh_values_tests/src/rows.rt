@@ -5,7 +5,6 @@ use crate::nodes::Joint::{Catch, Collect, Filter, FilterReturn, Fold, TryFinally
 use crate::nodes::Node::{Constant, Counted, Guard, Identity, Leaf, One, Switch, Throw, Two};
 use crate::nodes::{Node, Unchecked, checked, method_type};
 use Want::{Illegal, Refused, TooHeavy, Type};
-use mh_base::NoMemory;
 use mh_leaves::{Leaves, ManifestError, read_manifest};
 use mh_texts::{show_exc, show_type};
 use mh_values::{ClassId, Classes, DescriptorError, Exc, MethodTy, is_same_method_type};
