@@ -17,7 +17,7 @@ use std::alloc::Global;
 fn no_leaves(alloc: Global) -> Result<Leaves, ManifestError>
     ensures { IfOk result (λ leaves. leaves ≡ nothing_registered) }
 {
-    read_manifest(alloc, b"")
+    Ok(read_manifest(alloc, b"")?)
 }
 
 /// A body of one name, with one field.

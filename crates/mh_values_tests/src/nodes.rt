@@ -121,7 +121,7 @@ pub(crate) fn method_type(
 ) -> Result<MethodTy, DescriptorError>
     ensures { IfOk result (λ ty. desc classes.now text.now ≡ Ok ty) }
 {
-    read_descriptor(alloc, text.as_bytes(), classes)
+    Ok(read_descriptor(alloc, text.as_bytes(), classes)?)
 }
 
 /// A type, and nothing for `V`.

@@ -17,10 +17,10 @@ use std::test::Fail;
 fn host(alloc: Global) -> Result<Leaves, ManifestError>
     ensures { IfOk result (λ leaves. leaves ≡ host) }
 {
-    read_manifest(
+    Ok(read_manifest(
         alloc,
         b"class demo/Host java/lang/Object\nstatic demo/Host tick (I)I tick\nstatic demo/Host div (II)I idiv\n",
-    )
+    )?)
 }
 
 fn two_places(alloc: Global, first: u32, second: u32) -> Result<Operands, NoMemory>
