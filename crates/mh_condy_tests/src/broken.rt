@@ -9,8 +9,6 @@ pub enum Broken {
     NoMemory,
     /// What is wrong, in words.
     Fixture(&'static str),
-    Manifest(ManifestError),
-    Scripts(ScriptError),
 }
 
 impl From<NoMemory> for Broken {
@@ -29,7 +27,7 @@ impl From<ManifestError> for Broken {
     fn from(error: ManifestError) -> Self {
         match error {
             ManifestError::NoMemory => Broken::NoMemory,
-            fault => Broken::Manifest(fault),
+            ManifestError::Fault(_) => Broken::Fixture("the manifest is refused"),
         }
     }
 }
@@ -38,7 +36,7 @@ impl From<ScriptError> for Broken {
     fn from(error: ScriptError) -> Self {
         match error {
             ScriptError::NoMemory => Broken::NoMemory,
-            fault => Broken::Scripts(fault),
+            ScriptError::Fault(_) => Broken::Fixture("the scripts are refused"),
         }
     }
 }
