@@ -1,7 +1,7 @@
 use mh_base::NoMemory;
 use mh_leaves::ManifestError;
 use mh_script::ScriptError;
-use std::alloc::AllocError;
+use std::alloc::{AllocError, AllocFailed};
 
 /// Why a test cannot go on: no memory is left, or something of its own fixture is refused.
 #[derive(Clone, Copy, Debug, PartialEq, Eq)]
@@ -19,6 +19,12 @@ impl From<NoMemory> for Broken {
 
 impl From<AllocError> for Broken {
     fn from(_: AllocError) -> Self {
+        Broken::NoMemory
+    }
+}
+
+impl<T: Drop> From<AllocFailed<T>> for Broken {
+    fn from(_: AllocFailed<T>) -> Self {
         Broken::NoMemory
     }
 }
