@@ -294,8 +294,8 @@ fn came_of<R: Wait>(
     })
 }
 
-/// A case that does not end as is wanted, or after which types are still held: its name, how it ended,
-/// and how many types are held.
+/// A case that does not end as is wanted, or after which types are still held: its name, how it
+/// ended, and how many types are held.
 #[derive(Drop)]
 pub(crate) struct Differs {
     name: &'static str,

@@ -167,8 +167,8 @@ fn what_passes_answer_one_after_the_other(rt: HostRuntime) -> Result<(), Fail> {
     Ok(())
 }
 
-/// The place, the thread, the constant and the serial of the first attempt that is not what it should
-/// be: one of thread 0 at the constant of its place, with the serials from 1 on.
+/// The place, the thread, the constant and the serial of the first attempt that is not what it
+/// should be: one of thread 0 at the constant of its place, with the serials from 1 on.
 fn first_out_of_order(attempts: &[ConstAttempt]) -> Option<(u64, u32, u32, u64)> {
     for at in 0..attempts.len() {
         let place = at as u64;

@@ -81,8 +81,8 @@ fn first_apart(a: &[Answer], b: &[Answer]) -> Option<Fault> {
     None
 }
 
-/// What is wrong with what is recorded of a constant: it is not what is answered or attempted, it is
-/// not alone, or the constant was attempted more than twice.
+/// What is wrong with what is recorded of a constant: it is not what is answered or attempted, it
+/// is not alone, or the constant was attempted more than twice.
 fn fault_of(
     attempt: &ConstAttempt,
     answers: &[Answer],
@@ -123,8 +123,8 @@ fn first_fault(
     None
 }
 
-/// What is wrong after two threads have resolved the same constants. They should get the same of each,
-/// which one of them has recorded.
+/// What is wrong after two threads have resolved the same constants. They should get the same of
+/// each, which one of them has recorded.
 fn agree<'s, 't, J: ConstRun + Send + Sync, R: Threads + Wait + Sync>(
     rt: &R,
     alloc: Global,

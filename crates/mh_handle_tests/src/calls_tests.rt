@@ -17,8 +17,8 @@ fn int_of(outcome: &Outcome) -> Option<i32> {
     }
 }
 
-/// The int that is answered, if one is, by a form of how many keys, how many leaves were called, and
-/// how many types are held then.
+/// The int that is answered, if one is, by a form of how many keys, how many leaves were called,
+/// and how many types are held then.
 #[derive(Clone, Copy, Debug, PartialEq, Eq)]
 struct Parts {
     int: Option<i32>,

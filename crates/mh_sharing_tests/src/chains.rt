@@ -50,8 +50,8 @@ fn found<'t, S: Size>(
     }
 }
 
-/// Whether a copy of the second walk has seen the keys 7 and 8, its length, and how many nodes of it
-/// the first walk begins with.
+/// Whether a copy of the second walk has seen the keys 7 and 8, its length, and how many nodes of
+/// it the first walk begins with.
 fn copied<S: Size>(
     chain: &Chain<Entry<S>>,
     first: &Walk<Entry<S>>,

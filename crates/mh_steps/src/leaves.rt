@@ -14,8 +14,8 @@ use mh_more::{Handles, with_first};
 use mh_values::LeafId;
 use std::sync::Wait;
 
-/// The handle of a leaf. A number that no leaf has is answered as lack of memory; [`check`] finds it
-/// before.
+/// The handle of a leaf. A number that no leaf has is answered as lack of memory; [`check`] finds
+/// it before.
 ///
 /// [`check`]: crate::check
 pub(crate) fn leaf_at<'t, R: Wait>(

@@ -179,8 +179,8 @@ fn adapted<'t, R: Wait>(
     }
 }
 
-/// The handle of a root after up to 100 steps, for which up to 219 numbers of forms may be drawn. What
-/// [`check`](crate::check) refuses is answered as lack of memory here.
+/// The handle of a root after up to 100 steps, for which up to 219 numbers of forms may be drawn.
+/// What [`check`](crate::check) refuses is answered as lack of memory here.
 pub fn made<'t, R: Wait>(
     w: &mut Work<'_, 't>,
     rt: &R,
