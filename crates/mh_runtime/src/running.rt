@@ -85,7 +85,7 @@ struct Linked {
 }
 
 // What a run gave whose threads were joined, and the seat of types that holds what is recorded.
-#[tactic(auto, using(crate::proofs::reports::OutsideStops::outside-joined))]
+#[tactic(auto, using(crate::proofs::reports::OutsideStops::outside_joined))]
 fn report<J: Run, R: Wait>(
     rt: &R,
     alloc: Global,
@@ -151,7 +151,7 @@ fn run_lanes<
 }
 
 // Runs a plan, whose threads' passes are split off this one.
-#[tactic(auto, using(crate::proofs::reports::OutsideStops::outside-on))]
+#[tactic(auto, using(crate::proofs::reports::OutsideStops::outside_on))]
 fn run_pass<
     's,
     't,

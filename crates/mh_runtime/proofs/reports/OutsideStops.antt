@@ -12,14 +12,14 @@ use Rattle.mh_runtime.specs.Runs.{IsStopOn}
 use Rattle.mh_runtime.specs.RunStops.{IsStopBy}
 use Rattle.mh_runtime.specs.Stops.{error_of, outside}
 
-pub outside-joined : {A J : Type 0} (joined : Joined J) (r : Result A Stop) → IsErrAnd r (λ x. x ≡ outside) → IfErr r (StopsJoined joined)
-outside-joined joined (Ok a) is = tt
-outside-joined joined (Err stop) is = inl is
+pub outside_joined : {A J : Type 0} (joined : Joined J) (r : Result A Stop) → IsErrAnd r (λ x. x ≡ outside) → IfErr r (StopsJoined joined)
+outside_joined joined (Ok a) is = tt
+outside_joined joined (Err stop) is = inl is
 
-pub outside-on : {A J : Type 0} (given : Given) (base : Pass J) (plan : List (List Call)) (r : Result A Stop) → IsErrAnd r (λ x. x ≡ outside) →
+pub outside_on : {A J : Type 0} (given : Given) (base : Pass J) (plan : List (List Call)) (r : Result A Stop) → IsErrAnd r (λ x. x ≡ outside) →
     IfErr r (IsStopOn given base plan)
-outside-on given base plan (Ok a) is = tt
-outside-on given base plan (Err stop) is = inl is
+outside_on given base plan (Ok a) is = tt
+outside_on given base plan (Err stop) is = inl is
 
 pub outside-by : {A : Type 0} (given : Given) (workers : ℕ) (plan : List (List Call)) (r : Result A Stop) → IsErrAnd r (λ x. x ≡ outside) →
     IfErr r (IsStopBy given workers plan)
