@@ -66,17 +66,17 @@ fn count_of(attempts: &[ConstAttempt], constant: u32) -> usize {
 }
 
 /// What is wrong, and of which constant.
-type Fault = (&'static str, u32);
+type Fault = (&'static str, usize);
 
 /// The first constant of which the answers of two threads differ, or all if one has more answers.
 fn first_apart(a: &[Answer], b: &[Answer]) -> Option<Fault> {
     for (at, (one, two)) in a.iter().zip(b.iter()).enumerate() {
         if one != two {
-            return Some(("two answers", at as u32));
+            return Some(("two answers", at));
         }
     }
     if a.len() != b.len() {
-        return Some(("fewer answers", a.len() as u32));
+        return Some(("fewer answers", a.len()));
     }
     None
 }
@@ -92,16 +92,16 @@ fn fault_of(
     let constant = attempt.constant;
     let at = constant as usize;
     if at >= answers.len() || answers[at].0 != attempt.serial {
-        return Some(("another answer than is recorded", constant));
+        return Some(("another answer than is recorded", at));
     }
     if !attempts.contains(attempt) {
-        return Some(("recorded without an attempt", constant));
+        return Some(("recorded without an attempt", at));
     }
     if count_of(recorded, constant) != 1 {
-        return Some(("recorded twice", constant));
+        return Some(("recorded twice", at));
     }
     if count_of(attempts, constant) > 2 {
-        return Some(("attempted more than twice", constant));
+        return Some(("attempted more than twice", at));
     }
     None
 }
@@ -118,7 +118,7 @@ fn first_fault(
         }
     }
     if recorded.len() != answers.len() {
-        return Some(("not all are recorded", recorded.len() as u32));
+        return Some(("not all are recorded", recorded.len()));
     }
     None
 }
