@@ -131,4 +131,5 @@ sites_stand pool number first (site ∷ sites) h =
     let p : PlacedSite = record { number = number; first = first; site = site } in
     let rest = flat_map site_entries (sites_from (number + 1) (first + site_width site) sites) in
     let parts = holds_split pool first (site_entries p) rest h in
-    (has_site pool p parts.0, sites_stand pool (number + 1) (first + site_width site) sites (subst (λ n. Holds pool (first + n) rest) (entries_of_site p) parts.1))
+    let after = subst (λ n. Holds pool (first + n) rest) (entries_of_site p) parts.1 in
+    (has_site pool p parts.0, sites_stand pool (number + 1) (first + site_width site) sites after)
