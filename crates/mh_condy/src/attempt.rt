@@ -22,7 +22,7 @@ use std::alloc::Global;
 /// What an attempt has found of the constants among its static arguments, and what is thrown in place
 /// of an argument, if something is.
 #[derive(Drop)]
-pub(crate) struct Asked {
+pub struct Asked {
     pub findings: Vec<Finding>,
     pub thrown: Option<Exc>,
 }

@@ -12,9 +12,10 @@ use std::alloc::Global;
 use std::marker::Model;
 use std::sync::Wait;
 
-/// What a pass has learnt of the constants of its table.
+/// What a pass has learnt of the constants of its table. Contracts see the cells of the constants, and
+/// what was learnt of each.
 #[derive(Drop)]
-pub(crate) struct KnownConsts<'s, 't, J: ConstRun> {
+pub struct KnownConsts<'s, 't, J: ConstRun> {
     known: Known<'s, Const<'t, J>>,
 }
 

@@ -8,12 +8,15 @@ ghost use Rattle.mh_intern.specs.Views as types_seat;
 ghost use Rattle.mh_tickets.specs.Seats as serials_seat;
 ghost use Rattle.mh_handle.specs.Seats as forms_seat;
 ghost use Rattle.mh_jobs.specs.Given.{AreJobs};
-ghost use Rattle.mh_runtime.specs.Input.{given_by};
+ghost use Rattle.mh_runtime.specs.Attempts.{HasRoomForConstants};
+ghost use Rattle.mh_runtime.specs.Input.{AreConstantsOf, given_by};
 ghost use Rattle.mh_runtime.specs.Linkers.{HasRoom, IsOf};
 ghost use Rattle.mh_runtime.specs.Passes.{most_sites};
 
+use mh_attempt::ConstantsOf;
 use mh_base::{NoMemory, Seq};
 use mh_classfile::read;
+use mh_condy::ConstTable;
 use mh_form::Machine;
 use mh_jobs::{Run, RunJobs, push_class};
 use mh_leaves::read_manifest;
@@ -23,6 +26,7 @@ use mh_report::push_answer;
 use mh_runtime::{Linker, MOST_SITES, Pass, RunInput, Seats, Tables};
 use mh_script::read_scripts;
 use mh_texts::read_literal;
+use mh_tickets::TicketSeat;
 use std::alloc::Global;
 use std::process::ExitCode;
 use std::sync::Wait;
@@ -53,6 +57,7 @@ fn call<'s, 't, J: Run, R: Wait>(
 ) -> Bytes
     requires pass { IsOf J.given linker.now pass.old }
     requires room { HasRoom 1 pass.old }
+    requires constants { HasRoomForConstants pass.old.links }
 {
     let classes = linker.leaves.classes();
     let mut items = Seq::new(alloc);
@@ -76,13 +81,17 @@ fn call_from_both<'s, 't, J: Run + Send + Sync, R: Threads + Wait + Sync>(
     alloc: Global,
     linker: &'s Linker<'t, J>,
     seats: Seats,
+    constants: &'s ConstTable<'t, ConstantsOf<J>>,
+    asked: TicketSeat,
 ) -> Bytes
+    requires constants { asked ≡ serials_seat.new_seat constants.now.serials limit }
     requires leaves { linker.now.leaves.now ≡ J.given.leaves }
     requires types { seats.types ≡ types_seat.new_seat linker.now.types.now limit }
     requires forms { seats.forms ≡ forms_seat.new_seat linker.now.forms.now limit }
     requires serials { seats.serials ≡ serials_seat.new_seat linker.now.sites.serials limit }
 {
-    let mut one = linker.first_pass(seats)?;
+    let asked = constants.first_pass(asked)?;
+    let mut one = linker.first_pass(seats, constants, asked)?;
     let mut two = linker.split(&mut one, 1)?;
     let (first, second) = join_mut(
         rt,
@@ -102,11 +111,18 @@ fn link_and_call<'a, J: Run + Send + Sync, R: Threads + Wait + Sync>(
 ) -> Bytes
     requires named { given_by input.now ≡ J.given }
     requires jobs { AreJobs J.given }
+    requires constants { AreConstantsOf J.given }
     requires few { length J.given.jobs ≤ most_sites }
 {
     let (tables, seats) = Tables::new(alloc)?;
+    let (constants, asked) = ConstTable::<ConstantsOf<J>>::new(
+        alloc,
+        input.constants,
+        input.scripts,
+        input.leaves,
+    )?;
     let linker = Linker::<J>::new(alloc, input, &tables)?;
-    call_from_both(rt, alloc, &linker, seats)
+    call_from_both(rt, alloc, &linker, seats, &constants, asked)
 }
 
 /// The bytes of a file, at most 1,048,576.
@@ -129,6 +145,7 @@ fn lines<R: Threads + Wait + Sync, I: Inputs>(rt: &R, alloc: Global, inputs: &mu
         leaves: &leaves,
         scripts: &scripts,
         jobs: &jobs.sites,
+        constants: &jobs.constants,
     };
     link_and_call::<std::marker::Brand, R>(rt, alloc, &input)
 }

@@ -6,7 +6,8 @@ ghost use Rattle.mh_jobs.specs.Given.{AreJobs};
 ghost use Rattle.mh_plan.specs.Calls.{IsCallOf};
 ghost use Rattle.mh_runtime.specs.Input.{given_by};
 ghost use Rattle.mh_runtime.specs.Linkers.{AreSeats, BeginsPass, CanSplit, HasLessRoom, HasRoom, IsOf, JoinsPass, KeepsPass, MakesCall, Resolves, RunsThread, SplitsPass};
-ghost use Rattle.mh_runtime.specs.Passes.{most_sites};
+ghost use Rattle.mh_runtime.specs.Attempts.{HasRoomForConstants};
+ghost use Rattle.mh_runtime.specs.Passes.{NameConstants, most_sites};
 
 use crate::context::Context;
 use crate::input::RunInput;
@@ -15,8 +16,9 @@ use crate::site_linker::SiteLinker;
 use crate::site_pass::SitePass;
 use crate::stops::ThreadRun;
 use crate::tables::{Seats, Tables};
-use mh_attempt::{Linkage, WorkError};
+use mh_attempt::{ConstantsOf, Linkage, WorkError};
 use mh_base::NoMemory;
+use mh_condy::{ConstPass, ConstTable};
 use mh_form::Machine;
 use mh_handle::{Answer, FormTable, Work};
 use mh_intern::TypeTable;
@@ -61,6 +63,7 @@ impl<'t, J: Run> Linker<'t, J> {
     ) -> Result<Linker<'t, J>, NoMemory>
         requires named { given_by input.now ≡ J.given }
         requires jobs { AreJobs J.given }
+        requires constants { NameConstants J.given }
         requires few { length J.given.jobs ≤ most_sites }
         ensures leaves { IfOk result (λ linker. linker.leaves.now ≡ J.given.leaves) }
         ensures types { IfOk result (λ linker. linker.types.now ≡ tables.entry.now.types) }
@@ -76,12 +79,20 @@ impl<'t, J: Run> Linker<'t, J> {
         })
     }
 
-    /// The first pass, of thread 0, with seats of the linker's tables. If memory runs out, the seats are
-    /// lost, and the linker can have no pass.
-    pub fn first_pass<'s>(&'s self, seats: Seats) -> Result<Pass<'s, 't, J>, NoMemory>
+    /// The first pass, of thread 0, with seats of the linker's tables, and with the first pass over a
+    /// table of the run's constants. If memory runs out, the seats are lost, and the linker can have no
+    /// pass.
+    pub fn first_pass<'s>(
+        &'s self,
+        seats: Seats,
+        constants: &'s ConstTable<'t, ConstantsOf<J>>,
+        asked: ConstPass<'s, 't, ConstantsOf<J>>,
+    ) -> Result<Pass<'s, 't, J>, NoMemory>
         requires leaves { self.now.leaves.now ≡ J.given.leaves }
         requires seats { AreSeats self.now seats }
-        ensures begins { IfOk result (BeginsPass (length J.given.jobs) self.entry.now seats) }
+        requires asked { asked.table ≡ constants.now }
+        ensures begins { IfOk result
+            (BeginsPass (length J.given.jobs) self.entry.now seats asked.entry) }
         ensures pass { IfOk result (IsOf J.given self.entry.now) }
     {
         let Seats {
@@ -90,7 +101,7 @@ impl<'t, J: Run> Linker<'t, J> {
             serials,
         } = seats;
         Ok(Pass {
-            links: SitePass::new(self.alloc, &self.sites, serials, 0)?,
+            links: SitePass::new(self.alloc, &self.sites, serials, constants, asked, 0)?,
             forms: self.forms.first_pass(self.alloc, forms)?,
             types,
         })
@@ -116,9 +127,12 @@ impl<'t, J: Run> Linker<'t, J> {
     {
         // Room is given away once all memory is there.
         let known = pass.links.learnt(self.alloc)?;
+        let constants = pass.links.constants_learnt()?;
         let forms = self.forms.split(self.alloc, &mut pass.forms)?;
         Ok(Pass {
-            links: pass.links.split(self.alloc, &self.sites, known, thread),
+            links: pass
+                .links
+                .split(self.alloc, &self.sites, known, constants, thread),
             forms,
             types: self.types.split(&mut pass.types, SPLIT_ROOM),
         })
@@ -134,6 +148,7 @@ impl<'t, J: Run> Linker<'t, J> {
     ) -> Result<(), NoMemory>
         requires pass { IsOf J.given self.now pass.old }
         requires other { IsOf J.given self.now other }
+        requires constants { other.links.constants.table ≡ pass.old.links.constants.table }
         ensures ok { OnOk result (JoinsPass pass.old other.entry pass.new) }
         ensures kept { KeepsPass pass.old pass.new }
         ensures pass { IsOf J.given self.entry.now pass.new }
@@ -171,9 +186,11 @@ impl<'t, J: Run> Linker<'t, J> {
         requires pass { IsOf J.given self.now pass.old }
         requires site { site < length J.given.jobs }
         requires room { HasRoom 1 pass.old }
+        requires constants { HasRoomForConstants pass.old.links }
         ensures pass { IsOf J.given self.entry.now pass.new }
         ensures resolves { Resolves J.given site pass.old pass.new result }
         ensures left { (more : ℕ) → HasRoom (more + 1) pass.old → HasRoom more pass.new }
+        ensures constants_left { OnOk result (HasRoomForConstants pass.new.links) }
     {
         let mut w = Work {
             alloc: self.alloc,
@@ -219,9 +236,11 @@ impl<'t, J: Run> Linker<'t, J> {
         requires pass { IsOf J.given self.now pass.old }
         requires call { IsCallOf J.given.leaves J.given.jobs call.now }
         requires room { HasRoom 1 pass.old }
+        requires constants { HasRoomForConstants pass.old.links }
         ensures pass { IsOf J.given self.entry.now pass.new }
         ensures makes { MakesCall J.given call.now pass.old pass.new result }
         ensures left { (more : ℕ) → HasRoom (more + 1) pass.old → HasRoom more pass.new }
+        ensures constants_left { OnOk result (HasRoomForConstants pass.new.links) }
     {
         let mut w = Work {
             alloc: self.alloc,
@@ -259,6 +278,7 @@ impl<'t, J: Run> Linker<'t, J> {
         requires pass { IsOf J.given self.now pass.old }
         requires calls { All (IsCallOf J.given.leaves J.given.jobs) calls.now }
         requires room { HasRoom (length calls.now) pass.old }
+        requires constants { HasRoomForConstants pass.old.links }
         ensures pass { IsOf J.given self.entry.now pass.new }
         ensures runs { RunsThread J.given calls.now pass.old pass.new result }
     {

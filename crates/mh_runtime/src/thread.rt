@@ -36,6 +36,7 @@ impl<'s, 'g, 't, J: Run, G: Gate> Context<'s, 'g, 't, J, G> {
         ensures runs { RunsThread {J = J} J.given calls.now (pass_in pass.old w.old)
             (pass_in pass.new w.new) (run_of answers.new result) }
     {
+        pass.constants_told();
         let mut machine = Machine::new(w.alloc);
         for next in calls.as_slice() {
             answers.push(self.call(&mut machine, w, rt, pass, next)?)?;

@@ -1,4 +1,6 @@
-use Rattle.std.proofs.Common.{length, ℕ, arith}
+use Rattle.std.proofs.Common.{◌∙◌, ap, length, ℕ, arith}
+use Rattle.mh_tickets.specs.Seats.{SeatView}
+use Rattle.mh_condy.specs.Passes.{PassView}
 use Rattle.mh_runtime.specs.Linkers.{HasRoom}
 use Rattle.mh_runtime.proofs.lanes.CallRoom.{all_room}
 use Rattle.mh_tests.proofs.passes.resolve_twice.Goals as goal
@@ -8,7 +10,8 @@ pub resolve-requires-else-other-clause-room : goal.resolve-requires-else-other-c
 resolve-requires-else-other-clause-room g c =
     let linker = c.args.linker.now in
     let has = all_room (length g.J.Run.given.jobs) linker (record { types = linker.types.now; forms = linker.forms.now; serials = linker.sites.serials })
-    c.args.seats c.in_ok-one.one c.in_ok-one.ensures.begins
+    c.args.seats c.in_ok-asked.asked c.in_ok-one.one c.in_ok-one.ensures.begins
+    (ap (λ (p : PassView). p.seat.room) c.in_ok-asked.ensures ∙ ap (λ (s : SeatView). s.room) c.requires.constants)
     (record { types_are = c.requires.types; forms_are = c.requires.forms; serials_are = c.requires.serials }) in
     let less = c.in_ok-two.ensures.left in
     c.resolve.ensures.left 1 (record {
