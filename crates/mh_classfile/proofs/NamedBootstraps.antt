@@ -12,11 +12,12 @@ use Rattle.mh_class_pool.specs.declared.fault.ClassKind.TheVariants.{BadBootstra
 use Rattle.mh_classfile.specs.declared.constant.SiteView.{SiteView}
 use Rattle.mh_classfile.specs.declared.site.Site.{Site}
 use Rattle.mh_classfile.specs.Class as class_file
-use Rattle.mh_classfile.specs.Class.{HasBootstraps}
+use Rattle.mh_classfile.specs.Class.{HasBootstraps, HasDynamics}
 use Rattle.mh_classfile.specs.File.{has_bootstrap, rows_or_none, class_end, class_file as whole_file, IsClassFile}
 use Rattle.mh_classfile.specs.Rows.{Row}
 use Rattle.mh_classfile.proofs.Spelled.{Gives, value-gives, verdict-gives, both-give, later-gives}
 use Rattle.mh_classfile.proofs.FoundSites.{IsCalling, AreCalling, AreFound, members-call}
+use Rattle.mh_classfile.proofs.NamedDynamics.{have-dynamics}
 
 first : (v : Verdict) (next : Unit {0} → Verdict) → (v >>= next) ≡ Ok tt → v ≡ Ok tt
 first (Ok u) next h = refl
@@ -61,14 +62,17 @@ have pool sites rows are known k site at =
     subst (λ n. site.bootstrap < n) (sym (length-map rows (class_file.bootstrap_of pool)))
     (subst (λ (v : SiteView). v.bootstrap < length rows) there.2 within)
 
--- the class has the bootstrap methods that its call sites name, and no more call sites than there is room for
+-- the class has the bootstrap methods that its call sites name, no more call sites than there is room for, and the Dynamic entries that are named
 abbrev IsSound : ℕ → class_file.Class → Type 0
-IsSound room class = HasBootstraps class × (length class.sites ≤ room)
+IsSound room class = HasBootstraps class × (length class.sites ≤ room) × HasDynamics class
 
 sound : (pool : List Slot) (room : ℕ) (sites : List Site) (rows : List Row) → AreFound pool room sites →
     each (has_bootstrap (length rows)) pool ≡ Ok tt → IsSound room (class_file.class_of pool sites rows)
-sound pool room sites rows are known =
-    (have pool sites rows are.0 known, subst (λ n. n ≤ room) (sym (length-map sites (class_file.site_view pool))) are.1)
+sound pool room sites rows are known = (
+  have pool sites rows are.0 known,
+  subst (λ n. n ≤ room) (sym (length-map sites (class_file.site_view pool))) are.1,
+  have-dynamics pool sites rows,
+)
 
 end-has : (pool : List Slot) (room : ℕ) (sites : List Site) (rows : List Row) (total : ℕ) → AreFound pool room sites →
     Gives (IsSound room) (class_end pool sites rows total)
@@ -98,3 +102,12 @@ pub found-few : {V : Type 0} (view : V → class_file.Class) (room : ℕ) (bytes
     IfOk r (λ v. IsClassFile room bytes (view v)) → IfOk r (λ v. length (view v).sites ≤ room)
 found-few view room bytes (Ok v) h = (file-sound room bytes (view v) h).1
 found-few view room bytes (Err e) h = tt
+
+-- and the Dynamic entries that its bootstrap methods are given
+pub file-dynamics : (room : ℕ) (bytes : List ℕ) (class : class_file.Class) → IsClassFile room bytes class → HasDynamics class
+file-dynamics room bytes class is = (file-sound room bytes class is).2
+
+pub found-dynamics : {V : Type 0} (view : V → class_file.Class) (room : ℕ) (bytes : List ℕ) (r : Result V ClassError) →
+    IfOk r (λ v. IsClassFile room bytes (view v)) → IfOk r (λ v. HasDynamics (view v))
+found-dynamics view room bytes (Ok v) h = file-dynamics room bytes (view v) h
+found-dynamics view room bytes (Err e) h = tt

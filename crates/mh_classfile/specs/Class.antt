@@ -130,3 +130,9 @@ number_of class index = count_by (λ d. nat_lt d.index index) class.dynamics
 -- each call site of a class names a bootstrap method that is there (JVMS 4.4.10, 4.7.23)
 abbrev pub HasBootstraps : Class → Type 0
 HasBootstraps class = (k : ℕ) (site : SiteView) → slice_get class.sites k ≡ Some site → site.bootstrap < length class.bootstraps
+
+-- each Dynamic entry that a bootstrap method of a class is given is one of the class's, and has its number among them
+abbrev pub HasDynamics : Class → Type 0
+HasDynamics class =
+    (j : ℕ) (b : Bootstrap) (i : ℕ) (d : DynamicView) → slice_get class.bootstraps j ≡ Some b → slice_get b.arguments i ≡ Some (constants.Dynamic d) →
+    number_of class d.index < length class.dynamics

@@ -55,8 +55,8 @@ fn fixed_len(opcode: u8) -> usize
     }
 }
 
-/// How many bytes there are from the one after an opcode at `at` to the next place that is a multiple of 4, counted from the
-/// code's start.
+/// How many bytes there are from the one after an opcode at `at` to the next place that is a
+/// multiple of 4, counted from the code's start.
 fn padding(start: usize, at: usize) -> usize
     requires { start ≤ at }
     ensures { result ≡ padding start at }

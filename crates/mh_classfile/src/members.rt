@@ -10,8 +10,8 @@ use crate::site::{Method, Sites};
 use mh_class_bytes::Cursor;
 use mh_class_pool::{ClassError, ClassFault, ClassKind, Kind, Pool, check_name_or_none, u2};
 
-/// Reads an attribute of a method. `seen` and the answer say whether a `Code` was among those before
-/// and with this one.
+/// Reads an attribute of a method. `seen` and the answer say whether a `Code` was among those
+/// before and with this one.
 #[tactic(auto, unfolding(crate::specs::Members::method_attribute))]
 fn read_attribute(
     pool: &Pool<'_>,

@@ -4,7 +4,7 @@ ghost use Rattle.mh_class_pool.specs.Answers.{Yields};
 ghost use Rattle.mh_class_pool.specs.Entries.{slot};
 ghost use Rattle.mh_class_pool.specs.References.{each};
 ghost use Rattle.mh_classfile.specs.Rows.{closed_of};
-ghost use Rattle.mh_classfile.specs.Class.{Class, HasBootstraps};
+ghost use Rattle.mh_classfile.specs.Class.{Class, HasBootstraps, HasDynamics};
 ghost use Rattle.mh_classfile.specs.File.{header, has_bootstrap, rows_or_none, class_end, class_rest, class_body, class_read, IsClassFile, class_or_fault, IsEither};
 
 use crate::attributes::check_filled;
@@ -165,6 +165,9 @@ pub fn read<'b>(alloc: Global, bytes: &'b [u8], room: u32) -> Result<ClassView<'
 
     // Each of its call sites has its bootstrap method.
     ensures bootstraps { IfOk result (λ v. HasBootstraps v) }
+
+    // Each Dynamic entry that a bootstrap method is given is one of the class's.
+    ensures dynamics { IfOk result (λ v. HasDynamics v) }
 
     // They are no more than there is room for.
     ensures few { IfOk result (λ v. length v.sites ≤ room) }

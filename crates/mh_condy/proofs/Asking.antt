@@ -20,7 +20,8 @@ use Rattle.mh_jobs.proofs.Parts.{bound-parts}
 use Rattle.mh_link.specs.Named.{Constants}
 use Rattle.mh_link.specs.Depth.{rank}
 use Rattle.mh_link.specs.Places.{is_in, Has}
-use Rattle.mh_link.specs.Resolved.{Found, asked, resolved_parts, taken}
+use Rattle.mh_jobs.specs.Given.{Found}
+use Rattle.mh_link.specs.Resolved.{asked, resolved_parts, taken}
 use Rattle.mh_link.proofs.constants.Asked.{agree-each}
 use Rattle.mh_link.proofs.walking.Places.{has-cons}
 use Rattle.mh_link.proofs.constants.Resolving.{parts-same}
@@ -97,6 +98,7 @@ given-none run under old own room = record {
   given = [];
   resolves = refl;
   room = room;
+  drawn = omega arith;
 }
 
 module _ (run : Constants) (under : ℕ) (old now : PassView) (parts : List Part) (findings : List FindingView)
@@ -112,6 +114,7 @@ module _ (run : Constants) (under : ℕ) (old now : PassView) (parts : List Part
     given = so_far.given ++ a ∷ [];
     resolves = (go-on (found_in now.known) None (Known a ∷ []) parts so_far.given so_far.resolves).0;
     room = so_far.room;
+    drawn = so_far.drawn;
   }
 
   module _ (d : ℕ) (new : PassView) (node : ConstView) (on : GoesOnResolving now new) (goes : GoesBeside run (d ∷ []) (trail_of now) (trail_of new))
@@ -160,6 +163,7 @@ module _ (run : Constants) (under : ℕ) (old now : PassView) (parts : List Part
           (go-on (found_in new.known) None (Constant d ∷ []) parts so_far.given still).0
           ∙ ap (λ o. behind so_far.given (taken o >>= (λ v. Ok (argument.Value v ∷ [])))) (found-is ∙ ap (λ r. Some r) is);
       room = let r = goes.room under (λ c h. low-one c h low) in let s = so_far.room in omega arith;
+      drawn = let r = goes.room under (λ c h. low-one c h low) in let s = so_far.drawn in omega arith;
     }
 
     -- one constant with an error, at which all ends

@@ -1,16 +1,23 @@
 -- How many constants are not known, under any rank.
-use Rattle.std.proofs.Common.{◌≡◌, refl, ap, ℕ, zero, suc, ◌<◌, ◌≤◌, Bool, true, false, ◌&&◌, if◌then◌else◌, [], ◌∷◌, Option, Some, None, Ok, Err, arith}
-use Rattle.std.specs.Prelude.{OnOk, Result, is_none, nat_lt, unwrap_or}
+use Rattle.std.proofs.Common.{◌≡◌, refl, ap, ℕ, zero, suc, ◌<◌, ◌≤◌, Bool, true, false, ◌&&◌, if◌then◌else◌, List, [], ◌∷◌, Option, Some, None, Ok, Err, arith}
+use Rattle.std.specs.Prelude.{IfOk, OnOk, Result, is_none, nat_lt, unwrap_or}
 use denote.Ref.{Bor}
 use Rattle.mh_base.specs.declared.memory.NoMemory.{NoMemory}
 use Rattle.std.proofs.lemmas.Bool.{lt-ltb}
 use Rattle.std.proofs.lemmas.List.Sums.{sum_by-cons}
+use Rattle.mh_jobs.specs.declared.unresolved.Part.{Part}
+use Rattle.mh_jobs.specs.declared.unresolved.Part.TheVariants.{Known, Constant}
+use Rattle.mh_jobs.specs.declared.unresolved.StaticArguments.{StaticArguments}
 use Rattle.mh_link.specs.Named.{Constants}
+use Rattle.mh_link.specs.Resolved.{asked}
 use Rattle.mh_link.specs.Depth.{depth, most_depth, rank}
 use Rattle.mh_link.proofs.constants.Depths.{depth-small}
-use Rattle.mh_condy.specs.Nodes.{Nodes, unknown, unresolved}
+use Rattle.mh_condy.specs.declared.attempt.Asked.{Asked}
+use Rattle.mh_condy.specs.Given.{AreAsked, AreUnder}
+use Rattle.mh_condy.specs.Nodes.{Nodes, found_in, unknown, unresolved}
 use Rattle.mh_condy.specs.Passes.{PassView}
 use Rattle.mh_condy.specs.Recorded.{ConstView}
+use Rattle.mh_condy.specs.Runs.{HavePlaces}
 use Rattle.mh_condy.specs.Trails.{GoesBeside, trail_of}
 
 abbrev counted : Bool → ℕ
@@ -53,9 +60,9 @@ rank-small run c = cases (depth run c) refl
     cases (Some k) is = let s = depth-small run 64 c k is in omega arith
 
 -- as many serials are left at least as there are constants that are not known
-pub room-left : (run : Constants) (c : ℕ) (old new : PassView) → GoesBeside run (c ∷ []) (trail_of old) (trail_of new) →
+pub room-left : (run : Constants) (cs : List ℕ) (old new : PassView) → GoesBeside run cs (trail_of old) (trail_of new) →
     unresolved old.known ≤ old.seat.room → unresolved new.known ≤ new.seat.room
-room-left run c old new goes room =
+room-left run cs old new goes room =
     let drawn = goes.room 65 (λ d h. rank-small run d) in
     let before = unknown-all (rank run) 65 old.known (rank-small run) in
     let after = unknown-all (rank run) 65 new.known (rank-small run) in
@@ -64,5 +71,17 @@ room-left run c old new goes room =
 pub room-left-ok : (run : Constants) (c : ℕ) (old new : PassView) (result : Result (Bor ConstView) NoMemory) →
     OnOk result (GoesBeside run (c ∷ []) (trail_of old) (trail_of new)) → unresolved old.known ≤ old.seat.room →
     OnOk result (unresolved new.known ≤ new.seat.room)
-room-left-ok run c old new (Ok node) goes room = room-left run c old new goes room
+room-left-ok run c old new (Ok node) goes room = room-left run (c ∷ []) old new goes room
 room-left-ok run c old new (Err e) goes room = tt
+
+-- after the constants among arguments were gone through, too
+pub room-left-asked : (run : Constants) (arguments : StaticArguments) (old new : PassView) (result : Result Asked NoMemory) →
+    IfOk result (AreAsked run arguments old new) → unresolved old.known ≤ old.seat.room → OnOk result (unresolved new.known ≤ new.seat.room)
+room-left-asked run arguments old new (Ok a) are room = room-left run (asked (found_in new.known) arguments.parts) old new are.goes room
+room-left-asked run arguments old new (Err e) are room = tt
+
+-- constants of the run stand under a rank that is above all
+pub under-all : (run : Constants) (parts : List Part) → HavePlaces run parts → AreUnder run 65 parts
+under-all run [] places = tt
+under-all run (Known a ∷ parts) places = under-all run parts (λ i d at. places (suc i) d at)
+under-all run (Constant c ∷ parts) places = (rank-small run c, places zero c refl, under-all run parts (λ i d at. places (suc i) d at))

@@ -15,14 +15,14 @@ use Rattle.mh_link.proofs.walking.Places.{has-cons}
 use Rattle.mh_condy.specs.declared.pass.ConstAttempt.{ConstAttempt}
 use Rattle.mh_condy.specs.Recorded.{ConstView, IsConst, constants_of}
 use Rattle.mh_condy.specs.Given.{HasMade}
-use Rattle.mh_condy.specs.Nodes.{IsNodeOf, Keeps, Knows, found_in, is_known, node_in, unknown}
+use Rattle.mh_condy.specs.Nodes.{AreNodes, IsNodeOf, Keeps, Knows, found_in, is_known, node_in, unknown}
 use Rattle.mh_condy.specs.Passes.{Begins, IsPass, IsRecorded, Learns, Looks, PassView, Records, attempt_of}
-use Rattle.mh_condy.specs.Resolving.{GoesOnResolving, Resolves}
-use Rattle.mh_condy.specs.Trails.{AreOwnNodes, GoesBeside, trail_of}
+use Rattle.mh_condy.specs.Resolving.{DrawsFew, GoesOnResolving, Resolves}
+use Rattle.mh_condy.specs.Trails.{AreOwnNodes, GoesBeside, HasPutAll, trail_of}
 use Rattle.mh_condy.proofs.Trails.{known-at}
 use Rattle.mh_condy.proofs.Beside.{beside-found, beside-known, beside-new, still-unknown}
 use Rattle.mh_condy.proofs.Founds.{const-asked, const-node, const-value}
-use Rattle.mh_condy.proofs.Unknown.{put-there, unknown-less}
+use Rattle.mh_condy.proofs.Unknown.{put-there, unknown-less, unknown-more}
 use Rattle.mh_condy.proofs.Drawing.{on-begins, on-both, on-fails, on-learns, on-none, on-puts}
 
 -- ---- the nodes that a pass has put
@@ -55,6 +55,10 @@ own-nodes run pass is = record {
       ap (is_known pass.known) (sym r.of) ∙ known-at pass.known r.attempt.constant r.is.node r.is.at;
 }
 
+-- a pass that has put all that it knows knows what each constant is
+pub all-put : (run : Constants) (pass : PassView) → IsPass run pass → HasPutAll (trail_of pass) → AreNodes run pass.known
+all-put run pass is all = record { each = λ c node at. (own-nodes run pass is).each c node at (all c (known-at pass.known c node at)) }
+
 -- ---- the ends of a call
 
 module _ (run : Constants) (c : ℕ) (p : PassView) (is : IsPass run p) (within : c < length run.jobs) where
@@ -69,6 +73,7 @@ module _ (run : Constants) (c : ℕ) (p : PassView) (is : IsPass run p) (within 
     resolved = tt;
     learnt = λ some. refl;
     goes = beside-known run (trail_of p) c (own-nodes run p is) (known-at p.known c node.now at);
+    few = omega arith;
   }
 
   -- it is learnt of its cell
@@ -83,6 +88,7 @@ module _ (run : Constants) (c : ℕ) (p : PassView) (is : IsPass run p) (within 
         goes = beside-found run (trail_of p) (trail_of q) c node.now (own-nodes run p is) (ap is_some l.0) place known
             (ap (λ (x : PassView). map (λ a. a.constant) x.attempts) l.1) (ap (λ (x : PassView). x.seat.room) l.1)
             (ap (λ (x : PassView). map (λ a. a.constant) x.recorded) l.1);
+        few = let same : q.seat.room ≡ p.seat.room = ap (λ (x : PassView). x.seat.room) l.1 in omega (arith, same);
       }
 
   -- one or the other
@@ -109,20 +115,44 @@ module _ (run : Constants) (c : ℕ) (p : PassView) (is : IsPass run p) (within 
         ap (λ (x : PassView). unknown (rank run) (rank run c) x.known) begins.is in
         omega (arith, l, room, drawn, same)
 
+  -- its attempt draws one serial more than those that stand less deep
+  pub few-begun : (serial : ℕ) (p' q : PassView) → node_in p.known c ≡ None → Begins c serial p p' → DrawsFew run (rank run c) p' q →
+      DrawsFew run (suc (rank run c)) p q
+  few-begun serial p' q new begins few =
+      let l = unknown-less (rank run) (rank run c) (suc (rank run c)) p.known c place new (omega arith) (omega arith) in
+      let drawn = begins.draws.room in
+      let same : unknown (rank run) (rank run c) p'.known ≡ unknown (rank run) (rank run c) p.known =
+      ap (λ (x : PassView). unknown (rank run) (rank run c) x.known) begins.is in
+      omega (arith, l, few, drawn, same)
+
+-- nothing was drawn
+pub few-none : (run : Constants) (c : ℕ) (p q : PassView) → q ≡ p → DrawsFew run (suc (rank run c)) p q
+few-none run c p q same = let room : q.seat.room ≡ p.seat.room = ap (λ (x : PassView). x.seat.room) same in omega (arith, room)
+
+-- constants of ranks below a number were gone through, and then one more, however that ended
+pub few-then : (run : Constants) (under : ℕ) (old now new : PassView) (c : ℕ) → rank run c < under →
+    unknown (rank run) under now.known + old.seat.room ≤ unknown (rank run) under old.known + now.seat.room →
+    DrawsFew run (suc (rank run c)) now new → DrawsFew run under old new
+few-then run under old now new c low drawn few =
+    let more = unknown-more (rank run) (suc (rank run c)) under now.known low in
+    omega (arith, drawn, few, more)
+
 -- memory ran out, and the constant was not known
-pub resolves-not : (run : Constants) (c : ℕ) (p q : PassView) (e : NoMemory) → node_in p.known c ≡ None → GoesOnResolving p q → Resolves run c p q (Err e)
-resolves-not run c p q e new on = record {
+pub resolves-not : (run : Constants) (c : ℕ) (p q : PassView) (e : NoMemory) → node_in p.known c ≡ None → GoesOnResolving p q →
+    DrawsFew run (suc (rank run c)) p q → Resolves run c p q (Err e)
+resolves-not run c p q e new on few = record {
   goes_on = on;
   found = tt;
   resolved = new;
   learnt = λ some. absurd (both_ways false refl (subst (λ o. IsSome o) new some));
   goes = tt;
+  few = few;
 }
 
 pub resolves-handed : (run : Constants) (c : ℕ) (p q : PassView) (result : Result (Bor ConstView) NoMemory) (P : NoMemory → Type 0) → IsErrAnd result P →
-    node_in p.known c ≡ None → GoesOnResolving p q → Resolves run c p q result
-resolves-handed run c p q (Ok node) P handed new on = absurd handed
-resolves-handed run c p q (Err e) P handed new on = resolves-not run c p q e new on
+    node_in p.known c ≡ None → GoesOnResolving p q → DrawsFew run (suc (rank run c)) p q → Resolves run c p q result
+resolves-handed run c p q (Ok node) P handed new on few = absurd handed
+resolves-handed run c p q (Err e) P handed new on few = resolves-not run c p q e new on few
 
 -- the attempt that has made it is one of the pass's
 abbrev tried : ℕ → ℕ → ℕ → ConstAttempt
@@ -143,7 +173,7 @@ attempted c serial p p' q made number drawn begins on =
 module _ (run : Constants) (named : AreConstJobs run) (p p' q : PassView) (made : ConstView) (is : IsConst run made)
     (within : made.job.number < length p.known) (new : node_in p.known made.job.number ≡ None) (begins : Begins made.job.number made.serial p p')
     (on : GoesOnResolving p' q) (knows : All (Knows q.known) made.under)
-    (goes : GoesBeside run (constants_of made.under) (trail_of p') (trail_of q)) where
+    (goes : GoesBeside run (constants_of made.under) (trail_of p') (trail_of q)) (few : DrawsFew run (suc (rank run made.job.number)) p q) where
   abbrev c : ℕ
   c = made.job.number
 
@@ -210,13 +240,14 @@ module _ (run : Constants) (named : AreConstJobs run) (p p' q : PassView) (made 
           (ap (λ (x : PassView). map (λ a. a.constant) x.attempts) begins.is
           ∙ map_push (λ a. a.constant) p.attempts (record { thread = p.thread; constant = c; serial = made.serial }))
           (let room = begins.draws.room in omega arith) asks ends.known (ap (map (λ a. a.constant)) ends.attempts) ends.room ends.whose;
+      few = let same = ends.room in omega (arith, few, same);
     }
 
 -- ---- the end of an attempt
 
 module _ (run : Constants) (named : AreConstJobs run) (c serial : ℕ) (p p' q : PassView) (made : ConstView) (is : IsConst run made)
     (within : c < length p.known) (new : node_in p.known c ≡ None) (begins : Begins c serial p p') (on : GoesOnResolving p' q)
-    (has : HasMade run c serial p' q made) where
+    (has : HasMade run c serial p' q made) (few : DrawsFew run (suc (rank run c)) p q) where
   number : made.job.number ≡ c
   number = has.number
 
@@ -235,14 +266,18 @@ module _ (run : Constants) (named : AreConstJobs run) (c serial : ℕ) (p p' q :
   new-made : node_in p.known made.job.number ≡ None
   new-made = ap (node_in p.known) number ∙ new
 
+  few-made : DrawsFew run (suc (rank run made.job.number)) p q
+  few-made = subst (λ x. DrawsFew run (suc (rank run x)) p q) (sym number) few
+
   pub ended-unknown : node_in q.known made.job.number ≡ None
-  ended-unknown = unknown-then run named p p' q made is within-made new-made begins-made on knows goes
+  ended-unknown = unknown-then run named p p' q made is within-made new-made begins-made on knows goes few-made
 
   pub ended-resolves : (r : PassView) (result : Result (Bor ConstView) NoMemory) → IfOk result (λ node. Records made node.now q r) →
       OnErr result (r ≡ record q { known = r.known }) → Keeps q.known r.known → Resolves run c p r result
   ended-resolves r (Ok node) records failed keeps =
       subst (λ x. Resolves run x p r (Ok node)) number
-      (resolves-made run named p p' q made is within-made new-made begins-made on knows goes r node records)
+      (resolves-made run named p p' q made is within-made new-made begins-made on knows goes few-made r node records)
   ended-resolves r (Err e) records failed keeps =
       resolves-not run c p r e new
       (on-both p p' r (on-begins c serial p p' begins) (on-both p' q r on (on-fails q r keeps failed)))
+      (let same : r.seat.room ≡ q.seat.room = ap (λ (x : PassView). x.seat.room) failed in omega (arith, few, same))

@@ -11,7 +11,8 @@ use Rattle.mh_jobs.specs.Thrown.{OrThrown, ◌>>=◌}
 use Rattle.mh_jobs.proofs.Parts.{bound-parts}
 use Rattle.mh_link.specs.ConstScripts.{value_argument}
 use Rattle.mh_link.specs.Operands.{no_argument}
-use Rattle.mh_link.specs.Resolved.{Found, resolved_parts, taken}
+use Rattle.mh_jobs.specs.Given.{Found}
+use Rattle.mh_link.specs.Resolved.{resolved_parts, taken}
 use Rattle.mh_condy.specs.Lines.{argument_at}
 
 -- what a part gives: itself, or the value of its constant

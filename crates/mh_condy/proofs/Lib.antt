@@ -14,6 +14,7 @@ pub mod Rounds
 pub mod Givens
 pub mod Scripting
 pub mod OfClasses
+pub mod RunClasses
 pub mod Asking
 pub mod Under
 pub mod Calling

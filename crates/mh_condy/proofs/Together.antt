@@ -4,7 +4,8 @@ use Rattle.std.specs.Prelude.{is_some, option_map}
 use Rattle.mh_condy.specs.Recorded.{ConstView}
 use Rattle.mh_jobs.specs.Thrown.{OrThrown}
 use Rattle.mh_jobs.specs.declared.unresolved.StaticArguments.{StaticArguments}
-use Rattle.mh_link.specs.Resolved.{Agree, Found, asked, resolved}
+use Rattle.mh_jobs.specs.Given.{Found}
+use Rattle.mh_link.specs.Resolved.{Agree, asked, resolved}
 use Rattle.mh_link.proofs.constants.Resolving.{resolving}
 use Rattle.mh_link.specs.Named.{Constants, AreConstJobs}
 use Rattle.mh_link.specs.Depth.{most_depth}

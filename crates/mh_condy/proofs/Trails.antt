@@ -5,7 +5,7 @@ use Rattle.std.proofs.lemmas.Bool.{both_ways, cases_eq, eq-eqb, false_from_ne_tr
 use Rattle.std.proofs.lemmas.List.{length-set}
 use Rattle.std.proofs.lemmas.List.Concat.{flat_map-append}
 use Rattle.mh_condy.specs.Recorded.{ConstView}
-use Rattle.mh_link.specs.Resolved.{Found}
+use Rattle.mh_jobs.specs.Given.{Found}
 use Rattle.mh_link.specs.Named.{Constants, AreConstJobs}
 use Rattle.mh_link.specs.Depth.{most_depth, rank}
 use Rattle.mh_link.specs.Constants.{const_under}

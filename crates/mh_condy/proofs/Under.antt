@@ -12,7 +12,8 @@ use Rattle.mh_jobs.specs.declared.unresolved.Part.TheVariants.{Known, Constant}
 use Rattle.mh_jobs.specs.Thrown.{OrThrown, ◌>>=◌, ◌>>◌, require}
 use Rattle.mh_link.specs.Named.{Constants, Name, arguments_of_call}
 use Rattle.mh_link.specs.Depth.{depth, most_depth, rank}
-use Rattle.mh_link.specs.Resolved.{Found, resolved}
+use Rattle.mh_jobs.specs.Given.{Found}
+use Rattle.mh_link.specs.Resolved.{resolved}
 use Rattle.mh_link.specs.Constants.{call_value, const_outcome, too_deep}
 use Rattle.mh_link.specs.Asking.{asked_by, asked_of_call, asked_of_job}
 use Rattle.mh_link.specs.Places.{Has}
@@ -121,3 +122,7 @@ under-at run under (Constant e ∷ parts) zero d low at =
     (subst (λ x. rank run x < under) same low.0, subst (λ x. x < length run.jobs) same low.1)
 under-at run under (Known a ∷ parts) (suc i) d low at = under-at run under parts i d low at
 under-at run under (Constant e ∷ parts) (suc i) d low at = under-at run under parts i d low.2 at
+
+pub part-low : (run : Constants) (under : ℕ) (parts shown : List Part) (i d : ℕ) → AreUnder run under parts → shown ≡ parts →
+    slice_get shown i ≡ Some (Constant d) → rank run d < under
+part-low run under parts shown i d low same at = (under-at run under parts i d low (ap (λ ps. slice_get ps i) (sym same) ∙ at)).0

@@ -1,6 +1,6 @@
 -- For proofs: no clause of a public function reaches these definitions.
 -- The static arguments of an attempt, given what its pass has learnt of constants.
-use Rattle.std.specs.Prelude.{◌≡◌, ℕ, ◌<◌, ◌≤◌, List, [], ◌∷◌, length, slice_get, All, Option, None, Some, Ok, Err}
+use Rattle.std.specs.Prelude.{◌≡◌, ℕ, ◌+◌, ◌<◌, ◌≤◌, List, [], ◌∷◌, length, slice_get, All, Option, None, Some, Ok, Err}
 use Rattle.mh_values.specs.declared.value.Exc.{Exc}
 use Rattle.mh_values.specs.declared.value.Value.{Value}
 use Rattle.mh_jobs.specs.declared.constants.ConstBootstrap.{ConstBootstrap}
@@ -14,7 +14,8 @@ use Rattle.mh_link.specs.Named.{Constants}
 use Rattle.mh_link.specs.Asking.{asked_by}
 use Rattle.mh_link.specs.Constants.{call_value, const_outcome}
 use Rattle.mh_link.specs.Depth.{rank}
-use Rattle.mh_link.specs.Resolved.{Found, asked, resolved, resolved_parts}
+use Rattle.mh_jobs.specs.Given.{Found}
+use Rattle.mh_link.specs.Resolved.{asked, resolved, resolved_parts}
 use Rattle.mh_condy.specs.declared.attempt.Asked.{Asked}
 use Rattle.mh_condy.specs.declared.thrown.Failure.{Failure}
 use Rattle.mh_condy.specs.Nodes.{Knows, Nodes, found_in, unknown}
@@ -78,6 +79,8 @@ pub record HaveGiven (run : Constants) (under : ℕ) (parts : List Part) (findin
   pub given : List Argument
   pub resolves : resolved_parts (found_in now.known) None parts ≡ Ok given
   pub room : unknown (rank run) under now.known ≤ now.seat.room
+  -- at most as many serials were drawn as such constants became known
+  pub drawn : unknown (rank run) under now.known + old.seat.room ≤ unknown (rank run) under old.known + now.seat.room
 
 -- the part at a place is this constant, or is known
 abbrev pub IsPartAt : List Part → ℕ → Option ℕ → Type 0

@@ -3,7 +3,7 @@ use Rattle.std.specs.Prelude.{◌≡◌, ℕ, ◌+◌, zero, suc, Bool, true, �
 use Rattle.std.specs.List.{count_by}
 use Rattle.std.specs.Option.{option_flatten}
 use Rattle.mh_link.specs.Named.{Constants}
-use Rattle.mh_link.specs.Resolved.{Found}
+use Rattle.mh_jobs.specs.Given.{Found}
 use Rattle.mh_link.specs.Constants.{Serials, const_under}
 use Rattle.mh_link.specs.Asking.{asked_by}
 use Rattle.mh_link.specs.Places.{Has}

@@ -4,7 +4,7 @@ use Rattle.mh_values.specs.declared.value.Value.{Value}
 use Rattle.mh_jobs.specs.declared.constants.ConstJob.{ConstJob}
 use Rattle.mh_jobs.specs.Thrown.{OrThrown}
 use Rattle.mh_link.specs.Named.{Constants}
-use Rattle.mh_link.specs.Resolved.{Found}
+use Rattle.mh_jobs.specs.Given.{Found}
 use Rattle.mh_link.specs.Constants.{const_under}
 use Rattle.mh_link.specs.Asking.{asked_by}
 use Rattle.mh_condy.specs.declared.value.ConstValue.{ConstValue}

@@ -1,11 +1,12 @@
 -- What resolving a constant leaves of a pass.
-use Rattle.std.specs.Prelude.{◌≡◌, ℕ, ◌+◌, ◌<◌, List, [], ◌∷◌, ◌++◌, length, map, All, AllPairs, None, Some, Result, IfOk, IsSome, OnErr, OnOk}
+use Rattle.std.specs.Prelude.{◌≡◌, ℕ, suc, ◌+◌, ◌<◌, ◌≤◌, List, [], ◌∷◌, ◌++◌, length, map, All, AllPairs, None, Some, Result, IfOk, IsSome, OnErr, OnOk}
 use denote.Ref.{Bor}
 use Rattle.mh_base.specs.declared.memory.NoMemory.{NoMemory}
 use Rattle.mh_tickets.specs.Seats.{KnowsAll}
 use Rattle.mh_link.specs.Named.{Constants}
+use Rattle.mh_link.specs.Depth.{rank}
 use Rattle.mh_condy.specs.declared.pass.ConstAttempt.{ConstAttempt}
-use Rattle.mh_condy.specs.Nodes.{Keeps, node_in}
+use Rattle.mh_condy.specs.Nodes.{Keeps, node_in, unknown}
 use Rattle.mh_condy.specs.Passes.{PassView}
 use Rattle.mh_condy.specs.Recorded.{ConstView}
 use Rattle.mh_condy.specs.Trails.{GoesBeside, trail_of}
@@ -33,6 +34,10 @@ pub record GoesOnResolving (old new : PassView) : Type 0 where
   pub attempts : Attempts old new
   pub recorded : (more : List ConstAttempt) × (new.recorded ≡ old.recorded ++ more)
 
+-- a pass has drawn at most as many serials as there are constants of a rank below a number that it had not learnt, however resolving them ended
+abbrev pub DrawsFew : Constants → ℕ → PassView → PassView → Type 0
+DrawsFew run under old new = old.seat.room ≤ unknown (rank run) under old.known + new.seat.room
+
 -- a constant was resolved, or memory ran out
 pub record Resolves (run : Constants) (c : ℕ) (old new : PassView) (result : Result (Bor ConstView) NoMemory) : Type 0 where
   pub goes_on : GoesOnResolving old new
@@ -43,3 +48,5 @@ pub record Resolves (run : Constants) (c : ℕ) (old new : PassView) (result : R
   pub learnt : IsSome (node_in old.known c) → new ≡ old
   -- the constants that it asks were gone through, in which order, and by which attempts
   pub goes : OnOk result (GoesBeside run (c ∷ []) (trail_of old) (trail_of new))
+  -- and few serials were drawn for that
+  pub few : DrawsFew run (suc (rank run c)) old new

@@ -19,10 +19,10 @@ use mh_jobs::{ConstBootstrap, ConstJob};
 use mh_values::{ClassId, Exc, Value};
 use std::alloc::Global;
 
-/// What an attempt has found of the constants among its static arguments, and what is thrown in place
-/// of an argument, if something is.
+/// What an attempt has found of the constants among its static arguments, and what is thrown in
+/// place of an argument, if something is.
 #[derive(Drop)]
-pub(crate) struct Asked {
+pub struct Asked {
     pub findings: Vec<Finding>,
     pub thrown: Option<Exc>,
 }

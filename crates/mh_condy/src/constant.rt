@@ -9,9 +9,9 @@ use mh_setonce::Keyed;
 use std::marker::{Model, PhantomData};
 use std::snapshot::Snapshot;
 
-/// What an attempt has made of a dynamic constant of the run that `J` names. Contracts see the job of
-/// the constant, the serial of the attempt, the value or error, and what the attempt has found of
-/// the constants that it looked at itself.
+/// What an attempt has made of a dynamic constant of the run that `J` names. Contracts see the job
+/// of the constant, the serial of the attempt, the value or error, and what the attempt has found
+/// of the constants that it looked at itself.
 #[derive(Drop)]
 pub struct Const<'t, J: ConstRun> {
     job: &'t ConstJob,
@@ -102,7 +102,8 @@ impl<'t, J: ConstRun> Const<'t, J> {
     }
 
     /// Shows, for proofs, what was recorded: what the script of the job gives in an attempt of this
-    /// serial, where constants are what the attempt has found of them. It does nothing when it runs.
+    /// serial, where constants are what the attempt has found of them. It does nothing when it
+    /// runs.
     pub fn told(&self)
         ensures { IsConst J.run self.now }
     {

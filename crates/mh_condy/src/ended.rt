@@ -188,8 +188,8 @@ impl<'a, 's, 't, J: ConstRun> Attempt<'a, 's, 't, J> {
         }
     }
 
-    /// The value that a script gives as one of the constant's type. A script that makes a method handle
-    /// throws before any line runs.
+    /// The value that a script gives as one of the constant's type. A script that makes a method
+    /// handle throws before any line runs.
     fn run_script(&self, script: &Script) -> Result<Value, Failure>
         requires places { HavePlaces J.run self.now.call.now.arguments.parts }
         requires serial { self.now.serial < 2 ^ 63 }

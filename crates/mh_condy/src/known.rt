@@ -12,9 +12,10 @@ use std::alloc::Global;
 use std::marker::Model;
 use std::sync::Wait;
 
-/// What a pass has learnt of the constants of its table.
+/// What a pass has learnt of the constants of its table. Contracts see the cells of the constants,
+/// and what was learnt of each.
 #[derive(Drop)]
-pub(crate) struct KnownConsts<'s, 't, J: ConstRun> {
+pub struct KnownConsts<'s, 't, J: ConstRun> {
     known: Known<'s, Const<'t, J>>,
 }
 
@@ -92,7 +93,8 @@ impl<'s, 't, J: ConstRun> KnownConsts<'s, 't, J> {
         self.known.seen(c)
     }
 
-    /// What is recorded of a constant, if it was learnt or its cell shows it now. It takes no memory.
+    /// What is recorded of a constant, if it was learnt or its cell shows it now. It takes no
+    /// memory.
     pub(crate) fn find(&mut self, c: u32) -> Option<&'s Const<'t, J>>
         requires { c < length J.run.jobs }
         ensures cells { self.new.cells ≡ self.old.cells }

@@ -17,7 +17,10 @@ mod table;
 mod thrown;
 mod value;
 
+pub use attempt::Asked;
 pub use constant::Const;
+pub use finding::Finding;
+pub use known::KnownConsts;
 pub use mh_tickets::TicketSeat as ConstSeat;
 pub use pass::{ConstAttempt, ConstPass};
 pub use run::ConstRun;

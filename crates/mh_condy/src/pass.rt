@@ -95,14 +95,42 @@ impl<'s, 't, J: ConstRun> ConstPass<'s, 't, J> {
             (self.new ≡ with_seat (with_less_room split_room self.old.seat) self.old) }
         ensures err { OnErr result (self.new ≡ self.old) }
     {
-        let known = self.known.copy(alloc)?;
-        Ok(ConstPass {
+        let known = self.learnt(alloc)?;
+        Ok(self.split_with(alloc, table, known, thread))
+    }
+
+    /// What the pass has learnt, for a pass that is split off it.
+    pub(crate) fn learnt(&mut self, alloc: Global) -> Result<KnownConsts<'s, 't, J>, NoMemory>
+        ensures same { self.new ≡ self.old }
+        ensures cells { IfOk result (λ known. known.cells ≡ self.old.table.cells) }
+        ensures values { IfOk result (λ known. known.values ≡ self.old.known) }
+    {
+        self.known.copy(alloc)
+    }
+
+    /// A pass for another thread, which has learnt this, what this pass has learnt. It takes no
+    /// memory.
+    pub(crate) fn split_with(
+        &mut self,
+        alloc: Global,
+        table: &'s ConstTable<'t, J>,
+        known: KnownConsts<'s, 't, J>,
+        thread: u32,
+    ) -> ConstPass<'s, 't, J>
+        requires pass { self.old.table ≡ table.now }
+        requires cells { known.cells ≡ self.old.table.cells }
+        requires values { known.values ≡ self.old.known }
+        requires room { split_room < self.old.seat.room }
+        ensures other { result ≡ split_pass thread self.old }
+        ensures left { self.new ≡ with_seat (with_less_room split_room self.old.seat) self.old }
+    {
+        ConstPass {
             thread,
             known,
             attempts: Vec::new(alloc),
             recorded: Vec::new(alloc),
             seat: table.serials().split(&mut self.seat, SPLIT_ROOM),
-        })
+        }
     }
 
     /// Adds what another pass has learnt, attempted and recorded. If memory runs out, the seats are
@@ -176,16 +204,17 @@ impl<'s, 't, J: ConstRun> ConstPass<'s, 't, J> {
         self.known.seen(c)
     }
 
-    /// Shows, for proofs, what the pass knows: each constant is recorded under what its own attempt has
-    /// found, and the pass knows all that its own attempts have found. It does nothing when it runs.
+    /// Shows, for proofs, what the pass knows: each constant is recorded under what its own attempt
+    /// has found, and the pass knows all that its own attempts have found. It does nothing when it
+    /// runs.
     pub fn told(&self)
         ensures { IsPass J.run self.now }
     {
         self.known.told();
     }
 
-    /// What is recorded of a constant, if the pass has learnt it or its cell shows it now. It takes no
-    /// memory.
+    /// What is recorded of a constant, if the pass has learnt it or its cell shows it now. It takes
+    /// no memory.
     pub(crate) fn find(&mut self, c: u32) -> Option<&'s Const<'t, J>>
         requires { c < length J.run.jobs }
         ensures { Looks c self.old self.new result }
@@ -213,8 +242,8 @@ impl<'s, 't, J: ConstRun> ConstPass<'s, 't, J> {
         Ok(serial)
     }
 
-    /// Records what an attempt has made of a constant that the pass has not learnt, unless something
-    /// was recorded before: that is learnt then. If memory runs out, nothing is recorded.
+    /// Records what an attempt has made of a constant that the pass has not learnt, unless
+    /// something was recorded before: that is learnt then. If memory runs out, nothing is recorded.
     pub(crate) fn record<R: Wait>(
         &mut self,
         rt: &R,

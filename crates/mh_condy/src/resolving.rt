@@ -4,7 +4,7 @@ ghost use Rattle.std.specs.Prelude.{◌≡◌, ◌<◌, ◌≤◌, ◌^◌, suc,
 ghost use Rattle.mh_link.specs.Depth.{rank};
 ghost use Rattle.mh_condy.specs.Given.{AreAsked, AreUnder, HasMade, IsPartAt};
 ghost use Rattle.mh_condy.specs.Nodes.{node_in, unknown};
-ghost use Rattle.mh_condy.specs.Resolving.{GoesOnResolving, Resolves};
+ghost use Rattle.mh_condy.specs.Resolving.{DrawsFew, GoesOnResolving, Resolves};
 
 use crate::attempt::{Asked, Begun, called, uncalled, without_depth};
 use crate::constant::Const;
@@ -50,7 +50,8 @@ fn ended(alloc: Global, findings: Vec<Finding>, exc: &Exc) -> Result<Asked, NoMe
     })
 }
 
-/// No constant among arguments is an error: they end with what is thrown after them, if something is.
+/// No constant among arguments is an error: they end with what is thrown after them, if something
+/// is.
 fn given(
     alloc: Global,
     findings: Vec<Finding>,
@@ -66,10 +67,10 @@ fn given(
     Ok(Asked { findings, thrown })
 }
 
-/// Resolves the constants among static arguments in order, up to the first that is an error. They have
-/// ranks below `under`.
+/// Resolves the constants among static arguments in order, up to the first that is an error. They
+/// have ranks below `under`.
 #[cycle(resolve)]
-fn arguments<'s, 't, J: ConstRun, R: Wait>(
+pub(crate) fn arguments<'s, 't, J: ConstRun, R: Wait>(
     table: &'s ConstTable<'t, J>,
     rt: &R,
     pass: &mut ConstPass<'s, 't, J>,
@@ -81,6 +82,7 @@ fn arguments<'s, 't, J: ConstRun, R: Wait>(
     requires room { unknown (rank J.run) under pass.old.known ≤ pass.old.seat.room }
     ensures goes_on { GoesOnResolving pass.old pass.new }
     ensures asked { IfOk result (AreAsked J.run arguments.now pass.old pass.new) }
+    ensures few { DrawsFew J.run under pass.old pass.new }
 {
     pass.told();
     let parts = arguments.parts.as_slice();
@@ -113,6 +115,7 @@ fn attempt<'s, 't, J: ConstRun, R: Wait>(
     requires room { unknown (rank J.run) (rank J.run c) pass.old.known ≤ pass.old.seat.room }
     ensures goes_on { GoesOnResolving pass.old pass.new }
     ensures made { IfOk result (HasMade J.run c serial pass.old pass.new) }
+    ensures few { DrawsFew J.run (rank J.run c) pass.old pass.new }
 {
     table.told();
     pass.told();

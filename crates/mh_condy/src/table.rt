@@ -1,26 +1,32 @@
-ghost use Rattle.std.specs.Prelude.{◌≡◌, ◌<◌, ◌≤◌, length, slice_get, Some, IfOk, OnErr, OnOk};
+ghost use Rattle.std.specs.Prelude.{◌≡◌, ◌+◌, ◌<◌, ◌≤◌, length, slice_get, Some, IfOk, OnErr, OnOk};
 ghost use Rattle.mh_seats.specs.Room.{limit};
 ghost use Rattle.mh_tickets.specs.Seats.{KnowsAll, joined_seats, new_seat, with_less_room};
 ghost use Rattle.mh_link.specs.Depth.{rank};
+ghost use Rattle.mh_condy.specs.Given.{AreAsked};
 ghost use Rattle.mh_condy.specs.Nodes.{unresolved};
 ghost use Rattle.mh_condy.specs.Passes.{HasBoth, pass_at, split_pass, split_room, with_seat};
-ghost use Rattle.mh_condy.specs.Resolving.{Resolves};
-ghost use Rattle.mh_condy.specs.Runs.{AreResolvable};
+ghost use Rattle.mh_condy.specs.Resolving.{GoesOnResolving, Resolves};
+ghost use Rattle.mh_condy.specs.Runs.{AreResolvable, HavePlaces};
 
+use crate::attempt::Asked;
 use crate::constant::Const;
 use crate::depths::depths;
+use crate::known::KnownConsts;
 use crate::pass::ConstPass;
-use crate::resolving::resolve;
+use crate::resolving::{arguments, resolve};
 use crate::run::ConstRun;
 use mh_base::NoMemory;
 use mh_cells::Cells;
-use mh_jobs::{ConstJob, ConstJobs};
+use mh_jobs::{ConstJob, ConstJobs, StaticArguments};
 use mh_leaves::Leaves;
 use mh_script::Scripts;
 use mh_tickets::{TicketSeat, Tickets};
 use std::alloc::Global;
 use std::marker::Model;
 use std::sync::Wait;
+
+/// A rank above those of all constants, which stand 64 deep at most.
+const ABOVE_ALL: u8 = 65;
 
 /// The dynamic constants of a run, for threads that share them. Each has a cell: what is put there
 /// first is recorded of the constant, an error too (JVMS SE 17, 5.4.3.6). Contracts see the cells,
@@ -110,8 +116,39 @@ impl<'t, J: ConstRun> ConstTable<'t, J> {
         pass.split(self.alloc, self, thread)
     }
 
-    /// Adds what another pass has learnt, attempted, recorded and drawn. If memory runs out, the pass
-    /// has what it had, and the serials of both; what the other one has learnt and attempted is lost.
+    /// What a pass has learnt, for a pass that is split off it by `split_with`.
+    pub fn learnt<'s>(
+        &'s self,
+        pass: &mut ConstPass<'s, 't, J>,
+    ) -> Result<KnownConsts<'s, 't, J>, NoMemory>
+        ensures same { pass.new ≡ pass.old }
+        ensures cells { IfOk result (λ known. known.cells ≡ pass.old.table.cells) }
+        ensures values { IfOk result (λ known. known.values ≡ pass.old.known) }
+    {
+        pass.learnt(self.alloc)
+    }
+
+    /// A pass for another thread, as `split` gives it, where what this pass has learnt is at hand.
+    /// It takes no memory.
+    pub fn split_with<'s>(
+        &'s self,
+        pass: &mut ConstPass<'s, 't, J>,
+        known: KnownConsts<'s, 't, J>,
+        thread: u32,
+    ) -> ConstPass<'s, 't, J>
+        requires pass { pass.old.table ≡ self.now }
+        requires cells { known.cells ≡ pass.old.table.cells }
+        requires values { known.values ≡ pass.old.known }
+        requires room { split_room < pass.old.seat.room }
+        ensures other { result ≡ split_pass thread pass.old }
+        ensures left { pass.new ≡ with_seat (with_less_room split_room pass.old.seat) pass.old }
+    {
+        pass.split_with(self.alloc, self, known, thread)
+    }
+
+    /// Adds what another pass has learnt, attempted, recorded and drawn. If memory runs out, the
+    /// pass has what it had, and the serials of both; what the other one has learnt and attempted
+    /// is lost.
     pub fn join<'s>(
         &'s self,
         pass: &mut ConstPass<'s, 't, J>,
@@ -149,6 +186,28 @@ impl<'t, J: ConstRun> ConstTable<'t, J> {
         ensures room_left { OnOk result (unresolved pass.new.known ≤ pass.new.seat.room) }
     {
         resolve(self, rt, pass, c)
+    }
+
+    /// Resolves the constants among static arguments in their order, up to the first that is an
+    /// error, for an attempt that is given these arguments. The answer is what was found of each,
+    /// and what is thrown in place of an argument, if something is.
+    ///
+    /// The pass must have room for as many serials as there are constants that it has not learnt.
+    pub fn ask<'s, R: Wait>(
+        &'s self,
+        rt: &R,
+        pass: &mut ConstPass<'s, 't, J>,
+        asked: &StaticArguments,
+    ) -> Result<Asked, NoMemory>
+        requires pass { pass.old.table ≡ self.now }
+        requires places { HavePlaces J.run asked.now.parts }
+        requires room { unresolved pass.old.known ≤ pass.old.seat.room }
+        ensures goes_on { GoesOnResolving pass.old pass.new }
+        ensures asked { IfOk result (AreAsked J.run asked.now pass.old pass.new) }
+        ensures few { pass.old.seat.room ≤ unresolved pass.old.known + pass.new.seat.room }
+        ensures room_left { OnOk result (unresolved pass.new.known ≤ pass.new.seat.room) }
+    {
+        arguments(self, rt, pass, ABOVE_ALL, asked)
     }
 
     /// How many constants the run has.

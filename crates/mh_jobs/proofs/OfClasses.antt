@@ -7,7 +7,7 @@ use Rattle.mh_classfile.specs.declared.constant.SiteView.{SiteView}
 use Rattle.mh_classfile.specs.Class as class_file
 use Rattle.mh_script.specs.declared.script.Script.{Script}
 use Rattle.mh_jobs.specs.declared.job.Job.{Job}
-use Rattle.mh_jobs.specs.Given.{AreJobs, AreJobsOf}
+use Rattle.mh_jobs.specs.Given.{AreJobsOf}
 use Rattle.mh_jobs.specs.declared.run_jobs.RunJobs.{RunJobs}
 use Rattle.mh_jobs.specs.Sites.{site_job}
 use Rattle.mh_jobs.specs.Jobs.{jobs_from, with_sites}
@@ -69,8 +69,7 @@ module _ (leaves : LeafTable) (scripts : List Script) where
   none_are jobs none at job h = absurd cc
 
   -- the jobs that a run is given are those of call sites of its classes
-  pub are_jobs : (classes : List class_file.Class) →
-      AreJobs (record { leaves = leaves; scripts = scripts; jobs = (jobs_of leaves scripts classes).sites })
+  pub are_jobs : (classes : List class_file.Class) → AreJobsOf leaves scripts (jobs_of leaves scripts classes).sites
   are_jobs classes = with-more no_jobs classes (none_are [] refl)
 
   jobs_from-length : (class : class_file.Class) (first number : ℕ) (sites : List SiteView) →

@@ -84,17 +84,17 @@ impl Job {
     }
 }
 
-/// The job of a class's site `k`, whose number in the run is `site`, where the classes before it have
-/// `first` dynamic constants: the bootstrap method that links it with the name, the type and the
-/// static arguments, or the first of what is wrong, in that order (JVMS SE 17, 5.4.3.6). A script of
-/// the name of a built-in method does not count. `NoClassDefFoundError` names a class that is not
-/// there, or an owner that is neither a class nor that of a script; `NoSuchMethodError` a script or
-/// a leaf; `UnsupportedOperationException` has the message `constant` for a bootstrap method that is
-/// not called by `invokestatic`, `type` for a type that is left out, and for texts `lone surrogate`
-/// or `string too long` (above 4,096 characters).
+/// The job of a class's site `k`, whose number in the run is `site`, where the classes before it
+/// have `first` dynamic constants: the bootstrap method that links it with the name, the type and
+/// the static arguments, or the first of what is wrong, in that order (JVMS SE 17, 5.4.3.6). A
+/// script of the name of a built-in method does not count. `NoClassDefFoundError` names a class
+/// that is not there, or an owner that is neither a class nor that of a script; `NoSuchMethodError`
+/// a script or a leaf; `UnsupportedOperationException` has the message `constant` for a bootstrap
+/// method that is not called by `invokestatic`, `type` for a type that is left out, and for texts
+/// `lone surrogate` or `string too long` (above 4,096 characters).
 ///
-/// Static arguments are read up to the first that is refused. What it throws is kept with them, since
-/// an attempt resolves the dynamic constants before it: the exceptions above, and the message
+/// Static arguments are read up to the first that is refused. What it throws is kept with them,
+/// since an attempt resolves the dynamic constants before it: the exceptions above, and the message
 /// `constant` for other constants or handles than those that [`Argument`] has.
 pub fn job_of(
     alloc: Global,

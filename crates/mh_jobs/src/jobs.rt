@@ -67,8 +67,8 @@ impl Jobs {
         self.jobs.get(site as usize)
     }
 
-    /// Puts the job of the next call site after the others. If memory runs out, the jobs are as they
-    /// were.
+    /// Puts the job of the next call site after the others. If memory runs out, the jobs are as
+    /// they were.
     pub fn push(&mut self, job: Job) -> Result<(), NoMemory>
         requires { job.site ≡ length self.old }
         ensures ok { OnOk result (self.new ≡ self.old ++ job ∷ []) }
@@ -79,7 +79,8 @@ impl Jobs {
 }
 
 /// Puts the jobs of the call sites of a class after the others, numbered on. Equal descriptors of
-/// the class are read once. What is read of the static arguments of each bootstrap method is at hand.
+/// the class are read once. What is read of the static arguments of each bootstrap method is at
+/// hand.
 #[tactic(auto, using(crate::proofs::Numbering::all_made, crate::proofs::Numbering::no_more))]
 pub(crate) fn push_sites(
     alloc: Global,

@@ -1,5 +1,5 @@
-//! Jobs of call sites and of dynamic constants: which bootstrap method links a site or gives a value,
-//! and what it is given.
+//! Jobs of call sites and of dynamic constants: which bootstrap method links a site or gives a
+//! value, and what it is given.
 #![tactic(auto)]
 
 mod argument;

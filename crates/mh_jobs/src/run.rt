@@ -1,5 +1,5 @@
 ghost use Rattle.std.specs.Prelude.{[]};
-ghost use Rattle.mh_jobs.specs.Given.{Given};
+ghost use Rattle.mh_jobs.specs.Given.{Given, nothing_known};
 
 use std::marker::Brand;
 
@@ -11,5 +11,11 @@ pub trait Run {
 }
 
 impl Run for Brand {
-    ghost given = { record { leaves = record { classes = []; leaves = [] }; scripts = []; jobs = [] } };
+    ghost given = { record {
+      leaves = record { classes = []; leaves = [] };
+      scripts = [];
+      jobs = [];
+      constants = [];
+      values = nothing_known;
+    } };
 }

@@ -48,8 +48,8 @@ fn first_number(count: usize, more: u16) -> Result<u32, NoMemory>
 }
 
 /// Puts the jobs of the call sites and of the dynamic constants of one more class after the others,
-/// each numbered on. Equal descriptors of the class are read once, and so are the static arguments of
-/// each bootstrap method.
+/// each numbered on. Equal descriptors of the class are read once, and so are the static arguments
+/// of each bootstrap method.
 ///
 /// A call site or a constant that no `u32` can number counts as lack of memory. If memory runs out,
 /// the jobs are those before, and some of the class's after them.

@@ -4,5 +4,6 @@ pub mod NamedOwn
 pub mod SiteCalls
 pub mod Resolving
 pub mod Asked
+pub mod SameCalls
 pub mod FixedPoint
 pub mod RecordedConstants

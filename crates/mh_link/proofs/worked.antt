@@ -6,6 +6,7 @@ mod WorkedBranchCalls
 mod WorkedCalls
 mod WorkedConcatenations
 mod WorkedConstants
+mod WorkedSiteConstants
 mod WorkedEndings
 mod WorkedEnds
 mod WorkedLines

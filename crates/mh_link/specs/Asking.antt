@@ -3,9 +3,11 @@ use Rattle.std.specs.Prelude.{ℕ, zero, suc, if◌then◌else◌, List, [], ◌
 use Rattle.std.specs.List.{flat_map}
 use Rattle.std.specs.Option.{option_map_or}
 use Rattle.mh_jobs.specs.declared.constants.ConstJob.{ConstJob}
+use Rattle.mh_jobs.specs.declared.job.Job.{Job}
 use Rattle.mh_jobs.specs.declared.unresolved.StaticArguments.{StaticArguments}
 use Rattle.mh_jobs.specs.Thrown.{OrThrown}
-use Rattle.mh_link.specs.Resolved.{Found, asked}
+use Rattle.mh_jobs.specs.Given.{Found}
+use Rattle.mh_link.specs.Resolved.{arguments_of_site, asked}
 use Rattle.mh_link.specs.Named.{Constants, arguments_of_call}
 use Rattle.mh_link.specs.Depth.{depth, most_depth}
 use Rattle.mh_link.specs.Constants.{Serials, values_of}
@@ -15,6 +17,10 @@ use Rattle.mh_link.specs.Places.{first_places}
 abbrev pub asked_of_call : Found → OrThrown StaticArguments → List ℕ
 asked_of_call known (Ok arguments) = asked known arguments.parts
 asked_of_call known (Err e) = []
+
+-- the constants that the call of a site's job looks at itself
+abbrev pub asked_at : Found → Job → List ℕ
+asked_at known job = asked_of_call known (arguments_of_site job.call)
 
 -- the constants that the call of a job looks at itself
 abbrev pub asked_of_job : Found → ConstJob → List ℕ

@@ -10,7 +10,8 @@ use Rattle.mh_values.specs.Exception.{saying}
 use Rattle.mh_jobs.specs.declared.constants.ConstBootstrap.{ConstBootstrap}
 use Rattle.mh_jobs.specs.declared.job.Argument.{Argument}
 use Rattle.mh_jobs.specs.Thrown.{OrThrown, ◌>>=◌, ◌>>◌, require, recorded}
-use Rattle.mh_link.specs.Resolved.{Found, resolved}
+use Rattle.mh_jobs.specs.Given.{Found}
+use Rattle.mh_link.specs.Resolved.{resolved}
 use Rattle.mh_link.specs.ConstScripts.{script_value}
 use Rattle.mh_link.specs.Named.{Constants}
 use Rattle.mh_link.specs.Depth.{depth, most_depth}

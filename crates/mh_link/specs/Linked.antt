@@ -16,7 +16,6 @@ use Rattle.mh_tree.specs.Rows.{illegal, mismatch}
 use Rattle.mh_tree.specs.Typing.{type_of, held}
 use Rattle.mh_tree.specs.Meaning.{Done, mean}
 use Rattle.mh_jobs.specs.declared.job.BootstrapCall.{BootstrapCall}
-use Rattle.mh_jobs.specs.declared.job.Job.{Job}
 use Rattle.mh_jobs.specs.declared.job.Method.{Method}
 use Rattle.mh_jobs.specs.declared.job.Method.TheVariants as method
 use Rattle.mh_script.specs.declared.script.End.{End}
@@ -29,7 +28,6 @@ use Rattle.mh_jobs.specs.Names.{class_of}
 use Rattle.mh_link.specs.Concatenation.{concat_of}
 use Rattle.mh_link.specs.Operands.{Content, handle, value, Frame, handle_in}
 use Rattle.mh_link.specs.Operations.{node_of}
-use Rattle.mh_link.specs.Resolved.{job_call}
 use Rattle.mh_jobs.specs.Thrown.{OrThrown, ◌>>=◌, ◌>>◌, require, plainly, recorded, runtime_class}
 
 -- ---- lines
@@ -93,12 +91,8 @@ abbrev pub target_of : LeafTable → List Script → ℕ → BootstrapCall → O
 target_of leaves scripts serial call = method_target leaves scripts serial call call.method
 
 -- the target of an attempt to answer a call, or the exception that it throws
-abbrev pub call_outcome : LeafTable → List Script → OrThrown BootstrapCall → ℕ → OrThrown Tree
-call_outcome leaves scripts call serial = call >>= target_of leaves scripts serial
-
--- the target of an attempt to link a job's site, or the exception that it throws
-abbrev pub outcome : LeafTable → List Script → Job → ℕ → OrThrown Tree
-outcome leaves scripts job serial = call_outcome leaves scripts (job_call job) serial
+abbrev pub outcome : LeafTable → List Script → OrThrown BootstrapCall → ℕ → OrThrown Tree
+outcome leaves scripts call serial = call >>= target_of leaves scripts serial
 
 -- what is recorded at a site: the target of all calls, or the error that all throw
 pub data Linked : Type 0 where
@@ -111,12 +105,8 @@ linkage classes (Ok t) = Target t
 linkage classes (Err e) = Error (recorded classes e)
 
 -- what the attempt with a serial number links for a call
-abbrev pub call_linked : LeafTable → List Script → OrThrown BootstrapCall → ℕ → Linked
-call_linked leaves scripts call serial = linkage leaves.classes (call_outcome leaves scripts call serial)
-
--- what the attempt with a serial number links at a job's site
-abbrev pub linked : LeafTable → List Script → Job → ℕ → Linked
-linked leaves scripts job serial = call_linked leaves scripts (job_call job) serial
+abbrev pub linked : LeafTable → List Script → OrThrown BootstrapCall → ℕ → Linked
+linked leaves scripts call serial = linkage leaves.classes (outcome leaves scripts call serial)
 
 -- a call of a site: it calls the target, or throws the recorded error without a leaf call
 abbrev pub site_call : LeafTable → Linked → List Value → Done

@@ -9,7 +9,6 @@ use Rattle.mh_tree.specs.Typing.{type_of, held_before}
 use Rattle.mh_jobs.specs.declared.job.Argument.{Argument}
 use Rattle.mh_jobs.specs.declared.job.Argument.TheVariants as argument
 use Rattle.mh_jobs.specs.declared.job.BootstrapCall.{BootstrapCall}
-use Rattle.mh_jobs.specs.declared.job.Job.{Job}
 use Rattle.mh_jobs.specs.declared.job.Method.{Method}
 use Rattle.mh_jobs.specs.declared.job.Method.TheVariants as method
 use Rattle.mh_script.specs.declared.operand.Register.{Register}
@@ -25,7 +24,6 @@ use Rattle.mh_link.specs.Concatenation.{concat_of}
 use Rattle.mh_link.specs.Linked.{stepped, ended, called_script, at_start}
 use Rattle.mh_link.specs.Operands.{Frame}
 use Rattle.mh_link.specs.Operations.{node_of}
-use Rattle.mh_link.specs.Resolved.{job_call}
 use Rattle.mh_jobs.specs.Thrown.{OrThrown}
 
 -- ---- the nodes of a line
@@ -110,12 +108,8 @@ abbrev pub nodes_of_call : LeafTable → List Script → ℕ → BootstrapCall �
 nodes_of_call leaves scripts serial call = nodes_of_method leaves scripts serial call call.method
 
 -- the nodes that the attempt with a serial number makes for a call; the list may have a node twice
-abbrev pub call_nodes : LeafTable → List Script → OrThrown BootstrapCall → ℕ → List Tree
-call_nodes leaves scripts call serial = unless_thrown call (nodes_of_call leaves scripts serial)
-
--- the nodes that the attempt with a serial number makes at a job's site
-abbrev pub nodes : LeafTable → List Script → Job → ℕ → List Tree
-nodes leaves scripts job serial = call_nodes leaves scripts (job_call job) serial
+abbrev pub nodes : LeafTable → List Script → OrThrown BootstrapCall → ℕ → List Tree
+nodes leaves scripts call serial = unless_thrown call (nodes_of_call leaves scripts serial)
 
 -- ---- what is asked for
 
@@ -130,9 +124,5 @@ beginnings (x ∷ xs) = (x ∷ []) ∷ map (λ front. x ∷ front) (beginnings x
 
 -- The edits of an attempt: the recipes of its nodes, with all beginnings of each. An edit makes a form from the form with one key less.
 -- So an attempt asks for a form of each beginning too, and the edits do not depend on which line made which form.
-abbrev pub call_edits : {K : Type 0} → (Tree → List K) → LeafTable → List Script → OrThrown BootstrapCall → ℕ → List (List K)
-call_edits recipe leaves scripts call serial = flat_map (λ t. beginnings (recipe t)) (call_nodes leaves scripts call serial)
-
--- the same of an attempt at a job's site
-abbrev pub edits : {K : Type 0} → (Tree → List K) → LeafTable → List Script → Job → ℕ → List (List K)
-edits recipe leaves scripts job serial = call_edits recipe leaves scripts (job_call job) serial
+abbrev pub edits : {K : Type 0} → (Tree → List K) → LeafTable → List Script → OrThrown BootstrapCall → ℕ → List (List K)
+edits recipe leaves scripts call serial = flat_map (λ t. beginnings (recipe t)) (nodes leaves scripts call serial)

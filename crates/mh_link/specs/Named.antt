@@ -7,6 +7,7 @@ use Rattle.mh_jobs.specs.declared.constants.ConstJob.{ConstJob}
 use Rattle.mh_jobs.specs.declared.unresolved.Part.{Part}
 use Rattle.mh_jobs.specs.declared.unresolved.Part.TheVariants.{Known, Constant}
 use Rattle.mh_jobs.specs.declared.unresolved.StaticArguments.{StaticArguments}
+use Rattle.mh_jobs.specs.Given.{Given}
 use Rattle.mh_jobs.specs.Thrown.{OrThrown}
 use Rattle.mh_link.specs.Places.{Has}
 
@@ -15,6 +16,10 @@ pub record Constants : Type 0 where
   pub leaves : LeafTable
   pub scripts : List Script
   pub jobs : List ConstJob
+
+-- what the constants of a run are resolved with, of what it is given
+abbrev pub run_of : Given → Constants
+run_of given = record { leaves = given.leaves; scripts = given.scripts; jobs = given.constants }
 
 -- the static arguments of a constant's call
 abbrev pub arguments_of_call : OrThrown ConstBootstrap → OrThrown StaticArguments

@@ -1,6 +1,7 @@
 -- What is recorded of constants, each by a maker of its own.
 use Rattle.std.specs.Prelude.{◌≡◌, ℕ, Some, None, MatchOption}
-use Rattle.mh_link.specs.Resolved.{Found, Agree}
+use Rattle.mh_jobs.specs.Given.{Found}
+use Rattle.mh_link.specs.Resolved.{Agree}
 use Rattle.mh_link.specs.Named.{Constants}
 use Rattle.mh_link.specs.Constants.{Serials, serial_at, const_under}
 use Rattle.mh_link.specs.Asking.{asked_by}

@@ -10,11 +10,8 @@ use Rattle.mh_jobs.specs.declared.unresolved.StaticArguments.{StaticArguments}
 use Rattle.std.specs.Prelude.{ℕ, if◌then◌else◌, List, [], ◌∷◌, ◌≡◌, codes, Option, Some, None, Ok, Err, is_ok}
 use Rattle.mh_values.specs.declared.value.Exc.{Exc}
 use Rattle.mh_values.specs.declared.value.Value.{Value}
+use Rattle.mh_jobs.specs.Given.{Given, Found}
 use Rattle.mh_jobs.specs.Thrown.{OrThrown, ◌>>=◌, unsupported}
-
--- what is found of each constant: its recorded value or error, if there is one
-abbrev pub Found : Type 0
-Found = ℕ → Option (OrThrown Value)
 
 -- a constant as an argument; it is unsupported if nothing is known of it
 abbrev pub taken : Option (OrThrown Value) → OrThrown Value
@@ -48,19 +45,20 @@ call_under known call = do
   arguments ← resolved known bootstrap.arguments
   Ok (record { method = bootstrap.method; name = bootstrap.name; ty = bootstrap.ty; arguments = arguments })
 
--- nothing is known of any constant
-abbrev pub nothing_known : Found
-nothing_known c = None
-
--- the call of the bootstrap method at a job's site; its dynamic constants are unsupported
-abbrev pub job_call : Job → OrThrown BootstrapCall
-job_call job = call_under nothing_known job.call
+-- the call of the bootstrap method at a job's site, where of the constants is recorded what a run is given
+abbrev pub call_at : Given → Job → OrThrown BootstrapCall
+call_at given job = call_under given.values job.call
 
 -- the constants that are looked at to resolve parts, in order: up to the first that is an error
 abbrev pub asked : Found → List Part → List ℕ
 asked known [] = []
 asked known (Known a ∷ parts) = asked known parts
 asked known (Constant c ∷ parts) = c ∷ (if is_ok (taken (known c)) then asked known parts else [])
+
+-- the static arguments of a site's call
+abbrev pub arguments_of_site : OrThrown Bootstrap → OrThrown StaticArguments
+arguments_of_site (Ok bootstrap) = Ok bootstrap.arguments
+arguments_of_site (Err e) = Err e
 
 -- two tables know the same of each of these constants
 abbrev pub Agree : Found → Found → List ℕ → Type 0

@@ -104,8 +104,8 @@ fn push_site(
 }
 
 /// Puts a line for each call site of a class at the end of a text: `site K METHOD:DESC PC KIND
-/// OWNER.NAME:DESC SITENAME TYPE`. K is counted from `first`; KIND and what follows it are the site's
-/// bootstrap method handle.
+/// OWNER.NAME:DESC SITENAME TYPE`. K is counted from `first`; KIND and what follows it are the
+/// site's bootstrap method handle.
 pub fn push_sites(
     alloc: Global,
     text: &mut Vec<u8>,

@@ -8,7 +8,7 @@ use Rattle.mh_values.specs.declared.value.Value.TheVariants as value
 use Rattle.mh_leaf.specs.Outcome.{int_type}
 use Rattle.mh_classfile.specs.Class as class_file
 use Rattle.mh_script.specs.declared.script.Script.{Script}
-use Rattle.mh_jobs.specs.Given.{Given}
+use Rattle.mh_jobs.specs.Given.{Given, nothing_known}
 use Rattle.mh_jobs.specs.RunJobs.{jobs_of}
 use Rattle.mh_jobs.proofs.Host.{of, host, site_of, booted}
 
@@ -18,7 +18,13 @@ class_with types = record { constants = []; dynamics = []; sites = map (site_of 
 
 -- a run whose sites have these types, and are linked by a script
 abbrev pub given_with : Script → List (List ℕ) → Given
-given_with s types = record { leaves = host; scripts = s ∷ []; jobs = (jobs_of host (s ∷ []) (class_with types ∷ [])).sites }
+given_with s types = record {
+  leaves = host;
+  scripts = s ∷ [];
+  jobs = (jobs_of host (s ∷ []) (class_with types ∷ [])).sites;
+  constants = [];
+  values = nothing_known;
+}
 
 -- an int
 abbrev pub int : ℕ → Value

@@ -8,7 +8,8 @@ use Rattle.mh_jobs.specs.Thrown.{OrThrown, ◌>>=◌, ◌>>◌, require}
 use Rattle.mh_jobs.specs.declared.job.Argument.{Argument}
 use Rattle.mh_jobs.specs.declared.unresolved.Part.{Part}
 use Rattle.mh_jobs.specs.declared.unresolved.Part.TheVariants.{Known, Constant}
-use Rattle.mh_link.specs.Resolved.{Found, Agree, taken, resolved, asked}
+use Rattle.mh_jobs.specs.Given.{Found}
+use Rattle.mh_link.specs.Resolved.{Agree, taken, resolved, asked}
 use Rattle.mh_link.specs.Places.{is_in, Has}
 use Rattle.mh_jobs.specs.declared.constants.ConstBootstrap.{ConstBootstrap}
 use Rattle.mh_jobs.specs.declared.constants.ConstJob.{ConstJob}

@@ -1,7 +1,7 @@
 -- What constants are by serials is the one solution of the recursive reading.
 use Rattle.std.proofs.Common.{◌≡◌, refl, sym, ◌∙◌, ap, ℕ, zero, suc, ◌+◌, ◌-◌, ◌<◌, ◌≤◌, Option, Some, None, arith}
 use Rattle.std.specs.Prelude.{option_map}
-use Rattle.mh_link.specs.Resolved.{Found}
+use Rattle.mh_jobs.specs.Given.{Found}
 use Rattle.mh_link.specs.Named.{Constants, AreConstJobs}
 use Rattle.mh_link.specs.Depth.{depth, most_depth}
 use Rattle.mh_link.specs.Constants.{Serials, serial_at, const_under, values, values_of}

@@ -39,7 +39,7 @@ name-first (Some n) known names rest named =
 name-first None (Ok a) names rest named = named
 name-first None (Err e) names rest named = tt
 
-name-parts : (leaves : LeafTable) (class : class_file.Class) (first : ℕ) (constants : List Constant) →
+pub name-parts : (leaves : LeafTable) (class : class_file.Class) (first : ℕ) (constants : List Constant) →
     Name (names_of class first constants) (static_arguments leaves class first constants).parts
 name-parts leaves class first [] = tt
 name-parts leaves class first (c ∷ constants) =
@@ -47,7 +47,7 @@ name-parts leaves class first (c ∷ constants) =
     (name-parts leaves class first constants)
 
 -- the static arguments of a call are those of its bootstrap method
-call-arguments : (leaves : LeafTable) (scripts : List Script) (class : class_file.Class) (first : ℕ) (d : DynamicView) (call : ConstBootstrap) →
+pub call-arguments : (leaves : LeafTable) (scripts : List Script) (class : class_file.Class) (first : ℕ) (d : DynamicView) (call : ConstBootstrap) →
     const_call leaves scripts class first d ≡ Ok call → call.arguments ≡ static_arguments leaves class first (constants_at class d.bootstrap)
 call-arguments leaves scripts class first d call h = cases (slice_get class.bootstraps d.bootstrap) h
   where

@@ -1,7 +1,7 @@
 -- What is recorded, each under what its maker found, is what constants are by the serials.
 use Rattle.std.proofs.Common.{◌≡◌, ◌∙◌, ap, ℕ, Option, Some, None}
 use Rattle.std.specs.Prelude.{option_map, MatchOption}
-use Rattle.mh_link.specs.Resolved.{Found}
+use Rattle.mh_jobs.specs.Given.{Found}
 use Rattle.mh_link.specs.Named.{Constants, AreConstJobs}
 use Rattle.mh_link.specs.Constants.{Serials, serial_at, const_under, values_of}
 use Rattle.mh_link.specs.RecordedConstants.{AreRecorded, IsRecorded}

@@ -9,7 +9,8 @@ use Rattle.mh_jobs.specs.declared.unresolved.Part.{Part}
 use Rattle.mh_jobs.specs.declared.job.Argument.TheVariants as argument
 use Rattle.mh_jobs.specs.declared.unresolved.Part.TheVariants.{Known, Constant}
 use Rattle.mh_jobs.specs.declared.unresolved.StaticArguments.{StaticArguments}
-use Rattle.mh_link.specs.Resolved.{Found, Agree, taken, resolved_parts, resolved, asked}
+use Rattle.mh_jobs.specs.Given.{Found}
+use Rattle.mh_link.specs.Resolved.{Agree, taken, resolved_parts, resolved, asked}
 
 -- what one constant and the parts after it give
 abbrev led_by : Option (OrThrown Value) → OrThrown (List Argument) → OrThrown (List Argument)

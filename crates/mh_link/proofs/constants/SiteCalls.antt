@@ -17,7 +17,8 @@ use Rattle.mh_jobs.specs.Parts.{static_arguments}
 use Rattle.mh_jobs.specs.Sites.{site_bootstrap}
 use Rattle.mh_jobs.specs.Thrown.{OrThrown}
 use Rattle.mh_jobs.proofs.Parts.{bound-parts}
-use Rattle.mh_link.specs.Resolved.{Found, resolved, call_under}
+use Rattle.mh_jobs.specs.Given.{Found}
+use Rattle.mh_link.specs.Resolved.{resolved, call_under}
 
 -- the method is that of a handle, the type that of the site, and the arguments are what constants of a class give
 pub record IsCall (leaves : LeafTable) (scripts : List Script) (class : class_file.Class) (first : ℕ) (site : SiteView) (known : Found)

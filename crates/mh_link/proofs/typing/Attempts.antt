@@ -18,13 +18,14 @@ use Rattle.mh_jobs.specs.declared.job.Method.{Method}
 use Rattle.mh_jobs.specs.declared.job.Method.TheVariants as method
 use Rattle.mh_jobs.specs.Job.{method_of, method_named, bootstrap_method}
 use Rattle.mh_jobs.specs.Names.{is_built_in, is_known_owner, script_of}
-use Rattle.mh_jobs.specs.Sites.{site_bootstrap, site_job}
+use Rattle.mh_jobs.specs.Sites.{site_bootstrap}
 use Rattle.mh_jobs.specs.Thrown.{◌>>=◌, as_shown, no_class, no_method, unsupported}
 use Rattle.mh_jobs.proofs.Parts.{bound-parts, require-parts}
 use Rattle.mh_link.specs.Concatenation.{concat_of}
 use Rattle.mh_link.specs.Linked.{IsThere, called_script, at_start}
 use Rattle.mh_link.specs.Made.{nodes, nodes_from, nodes_of_call, nodes_of_method}
-use Rattle.mh_link.specs.Resolved.{Found, call_under, nothing_known}
+use Rattle.mh_jobs.specs.Given.{Found}
+use Rattle.mh_link.specs.Resolved.{call_under}
 use Rattle.mh_link.proofs.typing.Concatenations.{concat-typed}
 use Rattle.mh_link.proofs.typing.Leaves.{call-typed}
 use Rattle.mh_link.proofs.typing.Nodes.{AreTyped, IsTyped, thrown-typed, from-typed}
@@ -40,11 +41,11 @@ method-typed leaves scripts serial call method.Concat are =
     (λ t h. All-cons (IsTyped leaves) t [] (call.ty, concat-typed leaves call t h) (All-nil (IsTyped leaves)))
 
 -- every node that the attempt for a call site makes has a type
-pub made-typed : (leaves : LeafTable) (scripts : List Script) (class : class_file.Class) (first number : ℕ) (site : SiteView) (serial : ℕ) →
-    All (IsTyped leaves) (nodes leaves scripts (site_job leaves scripts class first number site) serial)
-made-typed leaves scripts class first number site serial =
-    thrown-typed leaves (call_under nothing_known (site_bootstrap leaves scripts class first site)) (nodes_of_call leaves scripts serial)
-    (λ call h. method-typed leaves scripts serial call call.method (call-typed leaves scripts class first site nothing_known call h))
+pub made-typed : (leaves : LeafTable) (scripts : List Script) (class : class_file.Class) (first : ℕ) (site : SiteView) (known : Found) (serial : ℕ) →
+    All (IsTyped leaves) (nodes leaves scripts (call_under known (site_bootstrap leaves scripts class first site)) serial)
+made-typed leaves scripts class first site known serial =
+    thrown-typed leaves (call_under known (site_bootstrap leaves scripts class first site)) (nodes_of_call leaves scripts serial)
+    (λ call h. method-typed leaves scripts serial call call.method (call-typed leaves scripts class first site known call h))
 
 found : (o : Option ScriptId) (e : Exc) (id : ScriptId) → ok_or o e ≡ Ok id → o ≡ Some id
 found (Some other) e id h = cc

@@ -31,7 +31,8 @@ use Rattle.mh_jobs.specs.Parts.{constant_or, named_constant, static_arguments, w
 use Rattle.mh_jobs.specs.Sites.{site_bootstrap}
 use Rattle.mh_jobs.specs.Names.{unless_missing, leaf_named, method_type_of_text}
 use Rattle.mh_jobs.specs.Thrown.{Says, OrThrown, ◌>>=◌, as_shown, unsupported}
-use Rattle.mh_link.specs.Resolved.{Found, taken, resolved, call_under}
+use Rattle.mh_jobs.specs.Given.{Found}
+use Rattle.mh_link.specs.Resolved.{taken, resolved, call_under}
 use Rattle.mh_link.proofs.typing.Nodes.{IsTyped, AreTyped}
 use Rattle.mh_link.proofs.constants.SiteCalls.{call-made}
 use Rattle.mh_jobs.proofs.Parts.{bound-parts}

@@ -13,7 +13,6 @@ use Rattle.mh_tree.specs.Tree.{Tree}
 use Rattle.mh_tree.specs.Rows.{illegal, mismatch}
 use Rattle.mh_tree.specs.Typing.{type_of}
 use Rattle.mh_jobs.specs.declared.job.BootstrapCall.{BootstrapCall}
-use Rattle.mh_jobs.specs.declared.job.Job.{Job}
 use Rattle.mh_jobs.specs.declared.job.Method.{Method}
 use Rattle.mh_jobs.specs.declared.job.Method.TheVariants as method
 use Rattle.mh_script.specs.declared.script.End.{End}
@@ -25,7 +24,6 @@ use Rattle.mh_jobs.proofs.Parts.{bound-parts, require-parts}
 use Rattle.mh_link.specs.Linked.{Target, linkage, assigning, stepped, ended, ran, called_script, at_start, method_target, target_of, outcome, linked}
 use Rattle.mh_link.proofs.typing.Concatenations.{concat-typed}
 use Rattle.mh_jobs.specs.Names.{class_of}
-use Rattle.mh_link.specs.Resolved.{job_call}
 use Rattle.mh_link.specs.Operands.{Frame, handle_in, handle}
 use Rattle.mh_link.specs.Operations.{node_of}
 use Rattle.mh_jobs.specs.Thrown.{OrThrown, ◌>>=◌, ◌>>◌, require, plainly, runtime_class}
@@ -79,10 +77,10 @@ method_target-typed leaves scripts serial call (method.Script id) t h =
     ran-typed leaves scripted.0.steps scripted.0.end (at_start call serial) t scripted.2
 method_target-typed leaves scripts serial call method.Concat t h = concat-typed leaves call t h
 
--- what is linked is linked for a call of the bootstrap method, and has the type of the site
-pub linked-typed : (leaves : LeafTable) (scripts : List Script) (job : Job) (serial : ℕ) (t : Tree) → linked leaves scripts job serial ≡ Target t →
-    (call : BootstrapCall) × (job_call job ≡ Ok call) × (type_of leaves t ≡ Ok call.ty)
-linked-typed leaves scripts job serial t h =
-    let found = is_target leaves (outcome leaves scripts job serial) t h in
-    let called = bound-parts (job_call job) (target_of leaves scripts serial) t found in
+-- what is linked is linked for a call of the bootstrap method, and has the type of the call
+pub linked-typed : (leaves : LeafTable) (scripts : List Script) (call : OrThrown BootstrapCall) (serial : ℕ) (t : Tree) →
+    linked leaves scripts call serial ≡ Target t → (own : BootstrapCall) × (call ≡ Ok own) × (type_of leaves t ≡ Ok own.ty)
+linked-typed leaves scripts call serial t h =
+    let found = is_target leaves (outcome leaves scripts call serial) t h in
+    let called = bound-parts call (target_of leaves scripts serial) t found in
     (called.0, called.1, method_target-typed leaves scripts serial called.0 called.0.method t called.2)

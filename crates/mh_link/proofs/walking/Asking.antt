@@ -2,7 +2,8 @@
 use Rattle.std.proofs.Common.{◌≡◌, refl, sym, ◌∙◌, ap, subst, ℕ, zero, suc, ◌<◌, ◌≤◌, true, inl, inr, List, [], ◌∷◌, ◌++◌, append-nil, append_assoc, Option, Some, None, Ok, Err, arith}
 use Rattle.std.specs.Prelude.{fold, option_map, is_some, unwrap_or, length}
 use Rattle.mh_jobs.specs.Thrown.{OrThrown}
-use Rattle.mh_link.specs.Resolved.{Found, Agree}
+use Rattle.mh_jobs.specs.Given.{Found}
+use Rattle.mh_link.specs.Resolved.{Agree}
 use Rattle.mh_link.specs.Places.{Has, first_places}
 use Rattle.mh_jobs.specs.declared.unresolved.StaticArguments.{StaticArguments}
 use Rattle.mh_link.specs.Named.{Constants, AreConstJobs}

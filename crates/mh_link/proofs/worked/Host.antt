@@ -14,12 +14,15 @@ use Rattle.mh_script.specs.declared.script.Operation.{Operation}
 use Rattle.mh_script.specs.declared.script.Operation.TheVariants as operation
 use Rattle.mh_script.specs.declared.script.Script.{Script}
 use Rattle.mh_script.specs.declared.script.Step.{Step}
+use Rattle.mh_jobs.specs.declared.job.BootstrapCall.{BootstrapCall}
 use Rattle.mh_jobs.specs.declared.job.Job.{Job}
+use Rattle.mh_jobs.specs.Given.{nothing_known}
 use Rattle.mh_jobs.specs.Sites.{site_job}
-use Rattle.mh_jobs.specs.Thrown.{caused}
+use Rattle.mh_jobs.specs.Thrown.{OrThrown, caused}
 use Rattle.mh_jobs.proofs.Host.{bootstrap_descriptor, site_of, booted, class_of}
 use Rattle.mh_link.specs.Linked.{Linked, Target, Error, linked}
 use Rattle.mh_link.specs.Made.{nodes}
+use Rattle.mh_link.specs.Resolved.{call_under}
 pub use Rattle.mh_link.proofs.worked.HostLeaves.{ints, runtime, two_ints, static_leaf, host, leaf, boxed_int, boxed_long}
 
 -- ---- lines
@@ -71,10 +74,14 @@ abbrev pub job_with : List ℕ → List Constant → Script → Job
 job_with descriptor arguments s =
     let site = site_of (codes "f") descriptor in site_job host (s ∷ []) (class_of site (booted arguments)) 0 0 site
 
+-- its call, where nothing is known of any constant
+abbrev pub call_with : List ℕ → List Constant → Script → OrThrown BootstrapCall
+call_with descriptor arguments s = call_under nothing_known (job_with descriptor arguments s).call
+
 -- what the attempt of a serial number links at such a site
 abbrev pub attempt_with : ℕ → List ℕ → List Constant → List Step → End → Linked
 attempt_with serial descriptor arguments steps e =
-    linked host (script steps e ∷ []) (job_with descriptor arguments (script steps e)) serial
+    linked host (script steps e ∷ []) (call_with descriptor arguments (script steps e)) serial
 
 -- what the first attempt links
 abbrev pub links_with : List ℕ → List Constant → List Step → End → Linked
@@ -86,7 +93,7 @@ links descriptor steps e = links_with descriptor [] steps e
 
 -- the nodes that the first attempt makes
 abbrev pub nodes_with : List ℕ → List Constant → List Step → End → List Tree
-nodes_with descriptor arguments steps e = nodes host (script steps e ∷ []) (job_with descriptor arguments (script steps e)) 1
+nodes_with descriptor arguments steps e = nodes host (script steps e ∷ []) (call_with descriptor arguments (script steps e)) 1
 
 -- the type that is linked, or the error
 abbrev pub type_linked : Linked → Result MethodTy Exc

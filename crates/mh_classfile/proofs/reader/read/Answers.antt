@@ -4,7 +4,7 @@ use Rattle.mh_class_pool.specs.declared.fault.ClassKind.{ClassKind}
 use Rattle.mh_class_pool.specs.Answers.{Yields}
 use Rattle.mh_classfile.specs.Class.{Class}
 use Rattle.mh_classfile.proofs.FileLaw.{file_complete, is_found, either}
-use Rattle.mh_classfile.proofs.NamedBootstraps.{found-few, found-have}
+use Rattle.mh_classfile.proofs.NamedBootstraps.{found-dynamics, found-few, found-have}
 use Rattle.mh_classfile.proofs.reader.read.Goals as goal
 
 pub returns-clause-found : goal.returns-clause-found
@@ -28,3 +28,9 @@ returns-clause-few c =
     let bytes = c.args.bytes.now in
     let result = c.read_exact.result in
     found-few (λ v. v) c.args.room bytes result (is_found (λ v. v) c.args.room bytes result c.read_exact.ensures)
+
+pub returns-clause-dynamics : goal.returns-clause-dynamics
+returns-clause-dynamics c =
+    let bytes = c.args.bytes.now in
+    let result = c.read_exact.result in
+    found-dynamics (λ v. v) c.args.room bytes result (is_found (λ v. v) c.args.room bytes result c.read_exact.ensures)

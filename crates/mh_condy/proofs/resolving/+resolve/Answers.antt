@@ -8,11 +8,11 @@ use Rattle.mh_condy.specs.Given.{AreUnder, HaveGiven}
 use Rattle.mh_condy.specs.Nodes.{unknown}
 use Rattle.mh_condy.specs.Passes.{Begins, PassView}
 use Rattle.mh_condy.specs.Recorded.{outcome_of}
-use Rattle.mh_condy.specs.Resolving.{GoesOnResolving}
+use Rattle.mh_condy.specs.Resolving.{DrawsFew, GoesOnResolving}
 use Rattle.mh_condy.proofs.Asking.{called-made, ends-asked, given-all, given-error, given-known, given-none, given-same, given-value, unasked-made, value-left}
 use Rattle.mh_condy.proofs.Drawing.{on-begins, on-both, on-none}
-use Rattle.mh_condy.proofs.Ends.{attempted, ended-resolves, ended-unknown, own-nodes, resolves-handed, resolves-seen, room-below, room-once}
-use Rattle.mh_condy.proofs.Under.{no-depth, parts-next, parts-split, some-depth, under-at, under-named}
+use Rattle.mh_condy.proofs.Ends.{attempted, ended-resolves, ended-unknown, few-begun, few-none, few-then, own-nodes, resolves-handed, resolves-seen, room-below, room-once}
+use Rattle.mh_condy.proofs.Under.{no-depth, part-low, parts-next, parts-split, some-depth, under-at, under-named}
 use Rattle.mh_condy.proofs.Unknown.{unknown-more}
 use Rattle.mh_condy.proofs.resolving.+resolve.Goals.{arguments-in-Some+in_ok-node+in_ok-push+in_default-value, arguments-in_default}
 use Rattle.mh_condy.proofs.resolving.+resolve.Goals as goal
@@ -97,6 +97,29 @@ arguments-returns-clause-asked g t c =
     (λ a found ends. given-all run c.args.under c.args.pass.now c.loop-at.pass (take c.loop-at.at parts) c.loop-at.findings.items c.loop-at.invariant
     c.args.arguments.now a (take_all c.loop-at.at parts c.loop-at-test.false ∙ c.as_slice-parts.ensures) found ends)
 
+-- few serials are drawn, however the arguments end
+
+pub arguments-returns-in_err-node-clause-few : goal.arguments-returns-in_err-node-clause-few
+arguments-returns-in_err-node-clause-few g t c =
+    few-then g.J.ConstRun.run c.args.under c.args.pass.now c.loop-at.pass c.resolve.new.pass c.in-Some.c
+    (part-low g.J.ConstRun.run c.args.under c.args.arguments.now.parts c.as_slice-parts.result.now c.loop-at.at c.in-Some.c c.requires.under
+    c.as_slice-parts.ensures c.in-Some.ensures) c.loop-at.invariant.drawn c.resolve.ensures.resolves.few
+
+pub arguments-returns-in_err-push-clause-few : goal.arguments-returns-in_err-push-clause-few
+arguments-returns-in_err-push-clause-few g t c =
+    few-then g.J.ConstRun.run c.args.under c.args.pass.now c.loop-at.pass c.resolve.new.pass c.in-Some.c
+    (part-low g.J.ConstRun.run c.args.under c.args.arguments.now.parts c.as_slice-parts.result.now c.loop-at.at c.in-Some.c c.requires.under
+    c.as_slice-parts.ensures c.in-Some.ensures) c.loop-at.invariant.drawn c.resolve.ensures.resolves.few
+
+pub arguments-returns-in-Error-clause-few : goal.arguments-returns-in-Error-clause-few
+arguments-returns-in-Error-clause-few g t c =
+    few-then g.J.ConstRun.run c.args.under c.args.pass.now c.loop-at.pass c.resolve.new.pass c.in-Some.c
+    (part-low g.J.ConstRun.run c.args.under c.args.arguments.now.parts c.as_slice-parts.result.now c.loop-at.at c.in-Some.c c.requires.under
+    c.as_slice-parts.ensures c.in-Some.ensures) c.loop-at.invariant.drawn c.resolve.ensures.resolves.few
+
+pub arguments-returns-clause-few : goal.arguments-returns-clause-few
+arguments-returns-clause-few g t c = let drawn = c.loop-at.invariant.drawn in omega (arith, drawn)
+
 -- ---- attempt
 
 pub attempt-without_depth-requires-clause-depth : goal.attempt-without_depth-requires-clause-depth
@@ -141,6 +164,20 @@ attempt-returns-in_ok-asked-in-Ok-clause-made g t c =
     called-made g.J.ConstRun.run c.args.c c.args.serial c.job.result.now c.args.pass.now c.arguments.new.pass c.in-Ok.call.arguments
     c.in_ok-asked-in-Ok.asked c.in_ok-asked-in-Ok.ensures.asked c.job.ensures.number c.called.result c.called.ensures.made c.called.ensures.under
 
+pub attempt-returns-then-depth-eq0-clause-few : goal.attempt-returns-then-depth-eq0-clause-few
+attempt-returns-then-depth-eq0-clause-few g t c = omega arith
+
+pub attempt-returns-in-Err-clause-few : goal.attempt-returns-in-Err-clause-few
+attempt-returns-in-Err-clause-few g t c = omega arith
+
+pub attempt-returns-in_ok-asked-in-Ok-clause-few : goal.attempt-returns-in_ok-asked-in-Ok-clause-few
+attempt-returns-in_ok-asked-in-Ok-clause-few g t c =
+    subst (λ n. DrawsFew g.J.ConstRun.run n c.args.pass.now c.arguments.new.pass) c.depth-depth.ensures c.arguments.ensures.few
+
+pub attempt-returns-in_err-asked-in-Ok-clause-few : goal.attempt-returns-in_err-asked-in-Ok-clause-few
+attempt-returns-in_err-asked-in-Ok-clause-few g t c =
+    subst (λ n. DrawsFew g.J.ConstRun.run n c.args.pass.now c.arguments.new.pass) c.depth-depth.ensures c.arguments.ensures.few
+
 -- ---- resolve
 
 pub resolve-returns-in-Some : goal.resolve-returns-in-Some
@@ -157,7 +194,8 @@ resolve-begin-requires-clause-room g t c =
 pub resolve-returns-in_err-serial : goal.resolve-returns-in_err-serial
 resolve-returns-in_err-serial g t c = record {
   resolves = resolves-handed g.J.ConstRun.run c.args.c c.args.pass.now c.begin.new.self c.from_residual.result _ c.from_residual.ensures.1
-      c.in_default.ensures.0 (subst (GoesOnResolving c.args.pass.now) (sym (c.in_err-serial.ensures.err ∙ c.in_default.ensures.1)) (on-none c.args.pass.now));
+      c.in_default.ensures.0 (subst (GoesOnResolving c.args.pass.now) (sym (c.in_err-serial.ensures.err ∙ c.in_default.ensures.1)) (on-none c.args.pass.now))
+      (few-none g.J.ConstRun.run c.args.c c.args.pass.now c.begin.new.self (c.in_err-serial.ensures.err ∙ c.in_default.ensures.1));
 }
 
 pub resolve-attempt-requires : goal.resolve-attempt-requires
@@ -184,7 +222,9 @@ resolve-returns-in_err-made g t c =
       resolves = resolves-handed g.J.ConstRun.run c.args.c c.args.pass.now c.attempt.new.pass c.from_residual-in_err-made.result _
           c.from_residual-in_err-made.ensures.1 c.in_default.ensures.0
           (on-both c.args.pass.now c.begin.new.self c.attempt.new.pass (on-begins c.args.c c.in_ok-serial.serial c.args.pass.now c.begin.new.self begins)
-          c.attempt.ensures.goes_on);
+          c.attempt.ensures.goes_on)
+          (few-begun g.J.ConstRun.run c.args.c c.args.pass.now c.told-2.ensures c.requires.constant c.in_ok-serial.serial c.begin.new.self
+          c.attempt.new.pass c.in_default.ensures.0 begins c.attempt.ensures.few);
     }
 
 pub resolve-record-requires-clause-attempted : goal.resolve-record-requires-clause-attempted
@@ -201,6 +241,8 @@ resolve-record-requires-clause-new g t c =
     subst (λ p. Begins c.args.c c.in_ok-serial.serial p c.begin.new.self) c.in_default.ensures.1 c.in_ok-serial.ensures.begins in
     ended-unknown g.J.ConstRun.run (λ d job at. (c.told.ensures.each d job at).names) c.args.c c.in_ok-serial.serial c.args.pass.now c.begin.new.self
     c.attempt.new.pass c.in_ok-made.made c.told-3.ensures within c.in_default.ensures.0 begins c.attempt.ensures.goes_on c.in_ok-made.ensures.made
+    (few-begun g.J.ConstRun.run c.args.c c.args.pass.now c.told-2.ensures c.requires.constant c.in_ok-serial.serial c.begin.new.self c.attempt.new.pass
+    c.in_default.ensures.0 begins c.attempt.ensures.few)
 
 pub resolve-returns : goal.resolve-returns
 resolve-returns g t c =
@@ -212,5 +254,8 @@ resolve-returns g t c =
     record {
       resolves = ended-resolves g.J.ConstRun.run (λ d job at. (c.told.ensures.each d job at).names) c.args.c c.in_ok-serial.serial c.args.pass.now
           c.begin.new.self c.attempt.new.pass c.in_ok-made.made c.told-3.ensures within c.in_default.ensures.0 begins c.attempt.ensures.goes_on
-          c.in_ok-made.ensures.made c.record.new.self c.record.result c.record.ensures.records c.record.ensures.failed c.record.ensures.kept;
+          c.in_ok-made.ensures.made
+          (few-begun g.J.ConstRun.run c.args.c c.args.pass.now c.told-2.ensures c.requires.constant c.in_ok-serial.serial c.begin.new.self
+          c.attempt.new.pass c.in_default.ensures.0 begins c.attempt.ensures.few)
+          c.record.new.self c.record.result c.record.ensures.records c.record.ensures.failed c.record.ensures.kept;
     }
