@@ -9,7 +9,6 @@ use Rattle.mh_tree.specs.Tree.{Tree}
 use Rattle.mh_handle.specs.declared.error.HandleError.{HandleError}
 use Rattle.mh_handle.specs.declared.error.HandleError.TheVariants as handle
 use Rattle.mh_handle.specs.declared.work.Work.{Work}
-use Rattle.mh_jobs.specs.declared.job.Job.{Job}
 use Rattle.mh_jobs.specs.Thrown.{OrThrown}
 use Rattle.mh_script.specs.declared.script.End.{End}
 use Rattle.mh_script.specs.declared.script.Operation.{Operation}
@@ -52,9 +51,9 @@ script_types leaves steps e frame = types_of leaves (nodes_from leaves steps e f
 abbrev pub target_types : LeafTable → List Script → ℕ → BootstrapCall → List MethodTy
 target_types leaves scripts serial call = types_of leaves (nodes_of_call leaves scripts serial call)
 
--- the types of the nodes that the attempt with a serial number makes
-abbrev pub job_types : LeafTable → List Script → Job → ℕ → List MethodTy
-job_types leaves scripts job serial = types_of leaves (nodes leaves scripts job serial)
+-- the types of the nodes that the attempt with a serial number makes for a call
+abbrev pub job_types : LeafTable → List Script → OrThrown BootstrapCall → ℕ → List MethodTy
+job_types leaves scripts call serial = types_of leaves (nodes leaves scripts call serial)
 
 -- ---- what a seat is asked for
 

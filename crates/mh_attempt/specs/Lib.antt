@@ -1,6 +1,7 @@
 pub mod Asked
 pub mod AskedTypes
 pub mod Cases
+pub mod Constants
 pub mod Errors
 pub mod Lines
 pub mod Linkage

@@ -12,7 +12,10 @@ use Rattle.mh_handle.specs.Stands.{Stands}
 use Rattle.mh_jobs.specs.declared.job.BootstrapCall.{BootstrapCall}
 use Rattle.mh_jobs.specs.declared.job.Job.{Job}
 use Rattle.mh_script.specs.declared.script.Script.{Script}
-use Rattle.mh_jobs.specs.Given.{Given, IsJob}
+use Rattle.mh_jobs.specs.Given.{Given, IsJob, under}
+use Rattle.mh_link.specs.Asking.{asked_at}
+use Rattle.mh_link.specs.Resolved.{call_under}
+use Rattle.mh_condy.specs.Recorded.{FindingView, constants_of, found_of}
 use Rattle.mh_link.specs.Linked as meant
 use Rattle.mh_link.specs.Linked.{Target, Error, held_by, linked}
 use Rattle.mh_link.specs.Sites.{linked_at}
@@ -29,11 +32,21 @@ target_recipes leaves scripts serial call = map (recipe leaves) (call_asked leav
 
 -- ---- linkages
 
--- a linkage: the job of its call site, the serial of the attempt, and the holds of its target, if it has one
+-- a linkage: the job of its call site, the serial of the attempt, the holds of its target, if it has one, and what the attempt has found of the constants that
+-- it looked at itself, in order
 pub record LinkageView : Type 0 where
   pub job : Job
   pub serial : ℕ
   pub held : List HoldView
+  pub under : List FindingView
+
+-- what a run is given, where of the constants is recorded what the attempt of a linkage has found of them
+abbrev pub own_given : LinkageView → Given → Given
+own_given l given = under (found_of l.under) given
+
+-- the attempt of a linkage has found something of each constant that its job looks at under what it has found
+abbrev pub HasFound : LinkageView → Type 0
+HasFound l = constants_of l.under ≡ asked_at (found_of l.under) l.job
 
 -- the holds of a linked target; an error has none
 abbrev pub held_in : Linked → List HoldView
@@ -50,13 +63,15 @@ IsLinkedBy leaves _ _ = ⊥
 abbrev pub HasTypes : List HoldView → List MethodTy → Type 0
 HasTypes holds types = (t : MethodTy) → on_type t (entries_of holds) ≡ times_type t types
 
--- the job is one of the run's, and the value is what the attempt with this serial links at its site
-pub record IsLinkage (given : Given) (job : Job) (serial : ℕ) (recorded : Linked) : Type 0 where
+-- the job is one of the run's, and the value is what the attempt with this serial links at its site, where constants are what it has found of them
+pub record IsLinkage (given : Given) (job : Job) (serial : ℕ) (findings : List FindingView) (recorded : Linked) : Type 0 where
   pub named : slice_get given.jobs job.site ≡ Some job
   pub is_job : IsJob given.leaves given.scripts job
-  pub right : IsLinkedBy given.leaves recorded (linked given.leaves given.scripts job serial)
+  -- these are the constants that the call looks at
+  pub asked : constants_of findings ≡ asked_at (found_of findings) job
+  pub right : IsLinkedBy given.leaves recorded (linked given.leaves given.scripts (call_under (found_of findings) job.call) serial)
   -- it holds the types that such a target holds
-  pub holds : HasTypes (held_in recorded) (held_by given.leaves (linked given.leaves given.scripts job serial))
+  pub holds : HasTypes (held_in recorded) (held_by given.leaves (linked given.leaves given.scripts (call_under (found_of findings) job.call) serial))
 
 -- how an attempt changes the seat: it adds the holds of what it has linked, or none if it fails
 abbrev pub AddsLinked : {E : Type 0} → Work → Work → Result Linked E → Type 0

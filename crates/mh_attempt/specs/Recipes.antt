@@ -7,9 +7,9 @@ use Rattle.mh_edit.specs.declared.key.Key.{Key}
 use Rattle.mh_handle.specs.Recipe.{recipe}
 use Rattle.mh_handle.specs.SameRecipes.{same_recipe}
 use Rattle.mh_jobs.specs.declared.job.BootstrapCall.{BootstrapCall}
-use Rattle.mh_jobs.specs.declared.job.Job.{Job}
 use Rattle.mh_jobs.specs.declared.job.Method.{Method}
 use Rattle.mh_jobs.specs.declared.job.Method.TheVariants as method
+use Rattle.mh_jobs.specs.Thrown.{OrThrown}
 use Rattle.mh_script.specs.declared.script.End.{End}
 use Rattle.mh_script.specs.declared.script.Operation.{Operation}
 use Rattle.mh_script.specs.declared.script.Operation.TheVariants as operation
@@ -22,7 +22,6 @@ use Rattle.mh_link.specs.Linked.{stepped, ended, called_script, at_start}
 use Rattle.mh_link.specs.Made.{concat_nodes, handles_of, returned, nodes_of_uses, unless_thrown}
 use Rattle.mh_link.specs.Operands.{Frame, handle_in}
 use Rattle.mh_link.specs.Operations.{node_of}
-use Rattle.mh_link.specs.Resolved.{job_call}
 
 -- ---- nodes
 
@@ -70,9 +69,9 @@ method_asked leaves scripts serial call method.Concat = concat_nodes leaves.clas
 abbrev pub call_asked : LeafTable → List Script → ℕ → BootstrapCall → List Tree
 call_asked leaves scripts serial call = method_asked leaves scripts serial call call.method
 
--- the nodes whose forms the attempt with a serial number asks for
-abbrev pub attempt_asked : LeafTable → List Script → Job → ℕ → List Tree
-attempt_asked leaves scripts job serial = unless_thrown (job_call job) (call_asked leaves scripts serial)
+-- the nodes whose forms the attempt with a serial number asks for, for a call
+abbrev pub attempt_asked : LeafTable → List Script → OrThrown BootstrapCall → ℕ → List Tree
+attempt_asked leaves scripts call serial = unless_thrown call (call_asked leaves scripts serial)
 
 -- ---- their recipes
 
@@ -88,9 +87,9 @@ end_recipes leaves e frame = map (recipe leaves) (end_asked leaves e frame)
 abbrev pub script_recipes : LeafTable → List Step → End → Frame → List (List Key)
 script_recipes leaves steps e frame = map (recipe leaves) (script_asked leaves steps e frame)
 
--- the recipes of the forms that the attempt with a serial number asks for
-abbrev pub attempt_recipes : LeafTable → List Script → Job → ℕ → List (List Key)
-attempt_recipes leaves scripts job serial = map (recipe leaves) (attempt_asked leaves scripts job serial)
+-- the recipes of the forms that the attempt with a serial number asks for, for a call
+abbrev pub attempt_recipes : LeafTable → List Script → OrThrown BootstrapCall → ℕ → List (List Key)
+attempt_recipes leaves scripts call serial = map (recipe leaves) (attempt_asked leaves scripts call serial)
 
 -- the recipes of the forms that making handles of operands, and then these nodes, asks for
 abbrev pub recipes_made : LeafTable → List HandleOperand → List Tree → List (List Key)

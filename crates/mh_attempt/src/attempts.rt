@@ -1,6 +1,6 @@
 //! Attempts to link call sites.
 
-ghost use Rattle.std.specs.Prelude.{◌≡◌, ◌≤◌, ◌<◌, ◌^◌, length, slice_get, Some, IfOk};
+ghost use Rattle.std.specs.Prelude.{◌≡◌, ◌+◌, ◌≤◌, ◌<◌, ◌^◌, length, slice_get, Some, IfOk, OnOk};
 ghost use Rattle.mh_handle.specs.Recipe.{recipe};
 ghost use Rattle.mh_handle.specs.Works.{GoesOn, IsReady, leaves_of};
 ghost use Rattle.mh_jobs.specs.Given.{IsJob};
@@ -10,19 +10,24 @@ ghost use Rattle.mh_link.specs.Linked.{IsThere, at_start, held_by, linked, outco
 ghost use Rattle.mh_link.specs.Sites.{edits_at, types_at};
 ghost use Rattle.mh_attempt.specs.Asked.{Asks, AsksOrThrows, attempt_draws};
 ghost use Rattle.mh_attempt.specs.AskedTypes.{AsksTypes, AsksTypesOrThrows, job_types, script_types, target_types};
+ghost use Rattle.mh_condy.specs.Nodes.{unresolved};
+ghost use Rattle.mh_condy.specs.Resolving.{GoesOnResolving};
+ghost use Rattle.mh_attempt.specs.Constants.{AsksConstants, AsksFirst, HasPlaces, call_in, given_in};
 ghost use Rattle.mh_attempt.specs.Linkage.{AddsLinkage, AddsLinked, HasTypes, IsLinkedBy, held_in, target_recipes};
 ghost use Rattle.mh_attempt.specs.Lines.{TellsTarget};
 ghost use Rattle.mh_attempt.specs.Recipes.{attempt_recipes, script_recipes};
 ghost use Rattle.mh_attempt.specs.Registers.{HasLeaves};
 ghost use Rattle.mh_attempt.specs.Several.{AddsTypes};
 
-use crate::call::call_of;
+use crate::call::{ask, call_of};
 use crate::concatenation::make_concatenation;
+use crate::constants::ConstantsOf;
 use crate::error::WorkError;
 use crate::linkage::{Linkage, Linked};
 use crate::registers::Registers;
 use crate::script::run_lines;
 use mh_base::{Copied, Frozen, NoMemory, Seq};
+use mh_condy::{ConstPass, ConstTable};
 use mh_handle::{Handle, HandleError, Work};
 use mh_jobs::{BootstrapCall, Job, Method, Run};
 use mh_script::{Script, Scripts};
@@ -117,54 +122,65 @@ fn call_bootstrap<'t, R: Wait>(
     }
 }
 
-/// The target of a job, in the attempt with a serial number. If the job or one of its static
-/// arguments has an exception, it is thrown before a script runs.
-fn target<'t, R: Wait>(
+/// The target of a job, in the attempt with a serial number, where constants are what the pass has
+/// learnt of them. If the job or one of its static arguments has an exception, it is thrown before
+/// a script runs.
+fn target<'t, J: Run, R: Wait>(
     w: &mut Work<'_, 't>,
     rt: &R,
+    constants: &ConstPass<'_, 't, ConstantsOf<J>>,
     scripts: &Scripts,
     job: &Job,
     serial: u64,
 ) -> Result<Handle<'t>, HandleError>
     requires ready { IsReady w.old attempt_draws }
     requires job { IsJob (leaves_of w.old) scripts.now job.now }
+    requires places { HasPlaces J.given job.now }
     requires serial { serial < 2 ^ 63 }
     ensures goes_on { GoesOn attempt_draws w.old w.new }
     ensures types { AddsTypes w.old w.new result }
-    ensures target { TellsTarget (outcome (leaves_of w.old) scripts.now job.now serial)
+    ensures target { TellsTarget
+        (outcome (leaves_of w.old) scripts.now (call_in constants.now job.now) serial)
         w.old result }
-    ensures asks { AsksOrThrows (attempt_recipes (leaves_of w.old) scripts.now job.now serial)
+    ensures asks { AsksOrThrows
+        (attempt_recipes (leaves_of w.old) scripts.now (call_in constants.now job.now) serial)
         w.old w.new result }
-    ensures asked { AsksTypesOrThrows (job_types (leaves_of w.old) scripts.now job.now serial)
+    ensures asked { AsksTypesOrThrows
+        (job_types (leaves_of w.old) scripts.now (call_in constants.now job.now) serial)
         w.old w.new result }
 {
-    let call = call_of(w.alloc, job)?;
+    let call = call_of(w.alloc, constants, job)?;
     call_bootstrap(w, rt, scripts, &call, serial)
 }
 
-/// What is linked for a job, in the attempt with a serial number.
-fn link<'t, R: Wait>(
+/// What is linked for a job, in the attempt with a serial number, where constants are what the pass
+/// has learnt of them.
+fn link<'t, J: Run, R: Wait>(
     w: &mut Work<'_, 't>,
     rt: &R,
+    constants: &ConstPass<'_, 't, ConstantsOf<J>>,
     scripts: &Scripts,
     job: &Job,
     serial: u64,
 ) -> Result<Linked<'t>, WorkError>
     requires ready { IsReady w.old attempt_draws }
     requires job { IsJob (leaves_of w.old) scripts.now job.now }
+    requires places { HasPlaces J.given job.now }
     requires serial { serial < 2 ^ 63 }
     ensures goes_on { GoesOn attempt_draws w.old w.new }
     ensures types { AddsLinked w.old w.new result }
     ensures linked { IfOk result (λ made. IsLinkedBy (leaves_of w.old) made
-        (linked (leaves_of w.old) scripts.now job.now serial)) }
-    ensures holds { IfOk result (λ made. HasTypes (held_in made)
-        (held_by (leaves_of w.old) (linked (leaves_of w.old) scripts.now job.now serial))) }
-    ensures asks { Asks (attempt_recipes (leaves_of w.old) scripts.now job.now serial)
+        (linked (leaves_of w.old) scripts.now (call_in constants.now job.now) serial)) }
+    ensures holds { IfOk result (λ made. HasTypes (held_in made) (held_by (leaves_of w.old)
+        (linked (leaves_of w.old) scripts.now (call_in constants.now job.now) serial))) }
+    ensures asks { Asks
+        (attempt_recipes (leaves_of w.old) scripts.now (call_in constants.now job.now) serial)
         w.old w.new result }
-    ensures asked { AsksTypes (job_types (leaves_of w.old) scripts.now job.now serial)
+    ensures asked { AsksTypes
+        (job_types (leaves_of w.old) scripts.now (call_in constants.now job.now) serial)
         w.old w.new result }
 {
-    match target(w, rt, scripts, job, serial) {
+    match target(w, rt, constants, scripts, job, serial) {
         Ok(target) => {
             // The target holds its type and those of its side parts.
             let _ty = target.ty();
@@ -181,15 +197,19 @@ fn link<'t, R: Wait>(
 }
 
 /// Attempts to link the call site of a job, with a serial number that no other attempt of the run
-/// has. It runs the script's lines and records how they end, an exception as an error. It gives
-/// back the handles that the lines made, except the target.
+/// has. It resolves the dynamic constants among the static arguments first, in order, up to the
+/// first that is an error. Then it runs the script's lines and records how they end, an exception
+/// as an error. It gives back the handles that the lines made, except the target.
 ///
 /// It answers `FormsFull` if no number is left for a form that the script asks for. It answers
 /// `TypesFull` if the bucket of a type is full of other types that are held. It then records
-/// nothing.
-pub fn attempt<'t, J: Run, R: Wait>(
+/// nothing. The pass over the constants must have room for as many serials as there are constants
+/// that it has not learnt.
+pub fn attempt<'s, 't, J: Run, R: Wait>(
     w: &mut Work<'_, 't>,
     rt: &R,
+    constants: &'s ConstTable<'t, ConstantsOf<J>>,
+    asked: &mut ConstPass<'s, 't, ConstantsOf<J>>,
     scripts: &Scripts,
     job: &'t Job,
     serial: u64,
@@ -198,16 +218,34 @@ pub fn attempt<'t, J: Run, R: Wait>(
     requires scripts { scripts.now ≡ J.given.scripts }
     requires leaves { leaves_of w.old ≡ J.given.leaves }
     requires job { IsJob J.given.leaves J.given.scripts job.now }
+    requires places { HasPlaces J.given job.now }
     requires serial { (1 ≤ serial) × (serial ≤ 2 ^ 62) }
     requires ready { IsReady w.old attempt_draws }
+    requires pass { asked.old.table ≡ constants.now }
+    requires room { unresolved asked.old.known ≤ asked.old.seat.room }
     ensures of { IfOk result (λ l. (l.job ≡ job.now) × (l.serial ≡ serial)) }
     ensures goes_on { GoesOn attempt_draws w.old w.new }
     ensures types { AddsLinkage w.old w.new result }
-    ensures asks { Asks (edits_at (recipe J.given.leaves) J.given job.now.site serial)
+
+    // The constants that the job's call looks at are resolved, and the pass knows what it found.
+    ensures resolving { GoesOnResolving asked.old asked.new }
+    ensures constants { IfOk result
+        (λ l. AsksConstants J.given job.now asked.old asked.new l.under) }
+    ensures before { AsksFirst J.given job.now asked.old asked.new
+        w.old.seat.now w.new.seat.now result }
+    ensures room_left { OnOk result (unresolved asked.new.known ≤ asked.new.seat.room) }
+
+    // However it ends, few serials of constants were drawn.
+    ensures few { asked.old.seat.room ≤ unresolved asked.old.known + asked.new.seat.room }
+
+    // What is asked for is what the attempt asks for where constants are what the pass has learnt.
+    ensures asks { Asks
+        (edits_at (recipe J.given.leaves) (given_in asked.new J.given) job.now.site serial)
         w.old w.new result }
-    ensures asked { AsksTypes (types_at J.given job.now.site serial)
+    ensures asked { AsksTypes (types_at (given_in asked.new J.given) job.now.site serial)
         w.old w.new result }
 {
-    let linked = link(w, rt, scripts, job, serial)?;
-    Ok(Linkage::new(job, serial, linked))
+    let findings = ask(w.alloc, rt, constants, asked, job)?;
+    let linked = link(w, rt, asked, scripts, job, serial)?;
+    Ok(Linkage::new(job, serial, linked, &findings))
 }

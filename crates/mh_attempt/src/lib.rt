@@ -4,6 +4,7 @@
 mod attempts;
 mod call;
 mod concatenation;
+mod constants;
 mod error;
 mod handle;
 mod lines;
@@ -15,5 +16,6 @@ mod script;
 mod thrown;
 
 pub use attempts::attempt;
+pub use constants::ConstantsOf;
 pub use error::WorkError;
 pub use linkage::{Linkage, Linked};

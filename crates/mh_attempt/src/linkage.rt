@@ -8,9 +8,10 @@ ghost use Rattle.mh_handle.specs.Works.{HoldsTypes, IsUnchanged};
 ghost use Rattle.mh_jobs.specs.Jobs.{params_at};
 ghost use Rattle.mh_link.specs.Linked.{held_by, site_call};
 ghost use Rattle.mh_link.specs.Sites.{linked_at};
-ghost use Rattle.mh_attempt.specs.Linkage.{HasTypes, IsLinkage, IsLinkedBy, held_in, site_keys};
+ghost use Rattle.mh_attempt.specs.Linkage.{HasTypes, IsLinkage, IsLinkedBy, HasFound, held_in, own_given, site_keys};
 
 use mh_base::{Copied, NoMemory};
+use mh_condy::Finding;
 use mh_form::Machine;
 use mh_handle::{Answer, Handle, Work};
 use mh_jobs::{Job, Run};
@@ -19,6 +20,7 @@ use mh_setonce::Keyed;
 use mh_values::{Exc, Items};
 use std::alloc::Global;
 use std::marker::{Model, PhantomData};
+use std::snapshot::Snapshot;
 
 /// What is linked at a call site: the target of all its calls, or the error that all of them throw
 /// (JVMS SE 17, 5.4.3.6).
@@ -29,12 +31,15 @@ pub enum Linked<'t> {
 }
 
 /// What an attempt links at a call site of the run that `J` names: the meaning of the site's script
-/// in the attempt with that serial. Contracts see the job of the site, the serial and the holds.
+/// in the attempt with that serial, where dynamic constants are what the attempt has found of them.
+/// Contracts see the job of the site, the serial, the holds, and what the attempt has found.
 #[derive(Drop)]
 pub struct Linkage<'t, J: Run> {
     job: &'t Job,
     serial: u64,
     linked: Linked<'t>,
+    // It has no bytes.
+    under: Snapshot<Vec<Finding>>,
     of: PhantomData<J>,
 }
 
@@ -43,22 +48,34 @@ impl<'t, J: Run> Model for Linkage<'t, J> {
 
     ghost Value = { LinkageView };
 
-    ghost view = { λ l. record { job = l.job.now; serial = l.serial; held = held_in l.linked } };
+    ghost view = { λ l. record {
+      job = l.job.now;
+      serial = l.serial;
+      held = held_in l.linked;
+      under = l.under.value.items;
+    } };
 
-    ghost invariant = { λ l. IsLinkage J.given l.job.now l.serial l.linked };
+    ghost invariant = { λ l. IsLinkage J.given l.job.now l.serial l.under.value.items l.linked };
 }
 
 impl<'t, J: Run> Linkage<'t, J> {
-    /// What was linked for a job.
-    pub(crate) fn new(job: &'t Job, serial: u64, linked: Linked<'t>) -> Linkage<'t, J>
-        requires { IsLinkage J.given job.now serial linked }
+    /// What was linked for a job, by an attempt that has found this of the constants.
+    pub(crate) fn new(
+        job: &'t Job,
+        serial: u64,
+        linked: Linked<'t>,
+        under: &Vec<Finding>,
+    ) -> Linkage<'t, J>
+        requires { IsLinkage J.given job.now serial under.now.items linked }
         ensures job { (result.job ≡ job.now) × (result.serial ≡ serial) }
         ensures held { result.held ≡ held_in linked.entry }
+        ensures under { result.under ≡ under.now.items }
     {
         Linkage {
             job,
             serial,
             linked,
+            under: Snapshot::of(under),
             of: PhantomData,
         }
     }
@@ -88,7 +105,7 @@ impl<'t, J: Run> Linkage<'t, J> {
     /// The target, or the error.
     pub fn linked(&self) -> &Linked<'t>
         ensures { IsLinkedBy J.given.leaves result.now
-            (linked_at J.given self.now.job.site self.now.serial) }
+            (linked_at (own_given self.now J.given) self.now.job.site self.now.serial) }
     {
         &self.linked
     }
@@ -100,8 +117,8 @@ impl<'t, J: Run> Linkage<'t, J> {
         requires typed { HaveTypes J.given.leaves.classes args.now
             (params_at J.given.jobs self.now.job.site) }
         ensures { IfOk result (IsAnswer (site_call J.given.leaves
-            (linked_at J.given self.now.job.site self.now.serial) args.now)
-            (site_keys J.given self.now.job.site self.now.serial)) }
+            (linked_at (own_given self.now J.given) self.now.job.site self.now.serial) args.now)
+            (site_keys (own_given self.now J.given) self.now.job.site self.now.serial)) }
     {
         self.call_with(&mut Machine::new(alloc), leaves, args)
     }
@@ -118,8 +135,8 @@ impl<'t, J: Run> Linkage<'t, J> {
         requires typed { HaveTypes J.given.leaves.classes args.now
             (params_at J.given.jobs self.now.job.site) }
         ensures { IfOk result (IsAnswer (site_call J.given.leaves
-            (linked_at J.given self.now.job.site self.now.serial) args.now)
-            (site_keys J.given self.now.job.site self.now.serial)) }
+            (linked_at (own_given self.now J.given) self.now.job.site self.now.serial) args.now)
+            (site_keys (own_given self.now J.given) self.now.job.site self.now.serial)) }
     {
         match &self.linked {
             Linked::Target(target) => target.invoke_with(machine, leaves, args, 0),
@@ -130,10 +147,18 @@ impl<'t, J: Run> Linkage<'t, J> {
     /// Shows, for proofs, which types the linkage holds: those that its target holds. It does
     /// nothing when it runs.
     pub fn types_held(&self)
-        ensures { HasTypes self.now.held
-            (held_by J.given.leaves (linked_at J.given self.now.job.site self.now.serial)) }
+        ensures { HasTypes self.now.held (held_by J.given.leaves
+            (linked_at (own_given self.now J.given) self.now.job.site self.now.serial)) }
     {
         let _linked = &self.linked;
+    }
+
+    /// Shows, for proofs, that the attempt has found something of each constant that the call looks
+    /// at. It does nothing when it runs.
+    pub fn told(&self)
+        ensures { HasFound self.now }
+    {
+        let _job = self.job;
     }
 
     /// Gives up the linkage and releases the types that its target holds. It takes no memory.
@@ -143,7 +168,14 @@ impl<'t, J: Run> Linkage<'t, J> {
         ensures unchanged { IsUnchanged w.old w.new }
         ensures types { Exchanges [] self.entry.held [] w.old.seat.now w.new.seat.now }
     {
-        if let Linked::Target(target) = self.linked {
+        let Linkage {
+            job: _,
+            serial: _,
+            linked,
+            under: _under,
+            of: _,
+        } = self;
+        if let Linked::Target(target) = linked {
             target.give_back(w);
         }
     }

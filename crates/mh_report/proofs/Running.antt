@@ -5,9 +5,10 @@ use Rattle.std.proofs.lemmas.List.{drop_more, take_all}
 use Rattle.std.proofs.lemmas.Option.{get_or_from_slice_get}
 use Rattle.mh_values.specs.declared.class.Class.{Class}
 use Rattle.mh_handle.specs.declared.answer.Answer.{Answer}
+use Rattle.mh_report.specs.declared.table.ConstRow.{ConstRow}
 use Rattle.mh_report.specs.declared.table.Recorded.{Recorded}
 use Rattle.mh_report.specs.Results.{result_said, thread_said, results_said}
-use Rattle.mh_report.specs.Text.{result_line, results_text, site_text, sites_text, thread_text, threads_text}
+use Rattle.mh_report.specs.Text.{constant_text, constants_text, result_line, results_text, site_text, sites_text, thread_text, threads_text}
 
 pub threads_text-more : (classes : List Class) (threads : List (List Answer)) (n : ℕ) (item : List Answer) (old new all : List ℕ) → n < length threads →
     slice_get threads n ≡ Some item → new ≡ old ++ thread_text classes n (thread_said item) →
@@ -40,3 +41,13 @@ sites_text-more classes table n entry old new all in_range is new_is before =
     ap (λ x. x ++ sites_text classes (n + 1) (drop (n + 1) table)) new_is
     ∙ append_assoc old (site_text classes n entry) (sites_text classes (n + 1) (drop (n + 1) table))
     ∙ ap (λ x. old ++ sites_text classes n x) (sym cut) ∙ before
+
+pub constants_text-more : (classes : List Class) (rows : List (Option ConstRow)) (n : ℕ) (entry : Option ConstRow) (old new all : List ℕ) → n < length rows →
+    slice_get rows n ≡ Some entry → new ≡ old ++ constant_text classes n entry → old ++ constants_text classes n (drop n rows) ≡ all →
+    new ++ constants_text classes (n + 1) (drop (n + 1) rows) ≡ all
+constants_text-more classes rows n entry old new all in_range is new_is before =
+    let cut : drop n rows ≡ entry ∷ drop (n + 1) rows = drop_more rows n entry in_range ∙ ap (λ x. x ∷ drop (n + 1) rows)
+    (get_or_from_slice_get rows n entry entry is) in
+    ap (λ x. x ++ constants_text classes (n + 1) (drop (n + 1) rows)) new_is
+    ∙ append_assoc old (constant_text classes n entry) (constants_text classes (n + 1) (drop (n + 1) rows))
+    ∙ ap (λ x. old ++ constants_text classes n x) (sym cut) ∙ before

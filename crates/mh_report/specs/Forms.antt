@@ -1,5 +1,5 @@
 -- The forms that a run makes and can need: one for each recipe.
-use Rattle.std.specs.Prelude.{ℕ, ◌*◌, if◌then◌else◌, List, [], ◌∷◌, ◌++◌, length, Ok, Err}
+use Rattle.std.specs.Prelude.{ℕ, zero, suc, ◌*◌, if◌then◌else◌, List, [], ◌∷◌, ◌++◌, length, map, Some, Ok, Err}
 use Rattle.std.specs.List.{flat_map, range_with_len}
 use Rattle.std.specs.Set.{distinct_count}
 use Rattle.mh_values.specs.declared.types.MethodTy.{MethodTy}
@@ -13,7 +13,8 @@ use Rattle.mh_edit.specs.declared.key.Key.{Key}
 use Rattle.mh_handle.specs.Recipe.{recipe}
 use Rattle.mh_handle.specs.SameRecipes.{same_recipe}
 use Rattle.mh_jobs.specs.Given.{Given}
-use Rattle.mh_link.specs.Sites.{edits_at}
+use Rattle.mh_link.specs.Constants.{Serials}
+use Rattle.mh_link.specs.Sites.{edits_at, with_serials}
 use Rattle.mh_plan.specs.declared.call.Call.{Call}
 use Rattle.mh_plan.specs.declared.call.Call.TheVariants.{Exact, Generic, Indy}
 use Rattle.mh_plan.specs.Naming.{naming_of, pairs_named}
@@ -54,6 +55,15 @@ attempt_edits given attempt = edits_at (recipe given.leaves) given attempt.site 
 abbrev pub forms : Given → List (List Call) → List Attempt → ℕ
 forms given threads attempts = distinct_count same_recipe (flat_map (attempt_edits given) attempts ++ plan_edits given.leaves threads)
 
+-- the tables that give each of so many dynamic constants a serial from 1 to `most`
+abbrev pub tables : ℕ → ℕ → List Serials
+tables zero most = [] ∷ []
+tables (suc constants) most = flat_map (λ table. map (λ serial. Some serial ∷ table) (range_with_len 1 most)) (tables constants most)
+
+-- those of the constants of a run, of which each of so many threads attempts each at most once; where a run has none, this is one table
+abbrev pub const_tables : Given → ℕ → List Serials
+const_tables given threads = tables (length given.constants) (threads * length given.constants)
+
 -- the recipes that attempts to link a site can ask for, if their serials are at most `most`
 abbrev pub site_edits : Given → ℕ → ℕ → List (List Key)
 site_edits given most site = flat_map (λ serial. edits_at (recipe given.leaves) given site serial) (range_with_len 1 most)
@@ -62,11 +72,16 @@ site_edits given most site = flat_map (λ serial. edits_at (recipe given.leaves)
 abbrev pub sites_edits : Given → ℕ → List ℕ → List (List Key)
 sites_edits given most sites = flat_map (λ site. site_edits given most site) sites
 
--- The recipes that a run can ask for, whichever attempts link its sites: those of its calls, and of attempts to link the sites that calls name.
--- Each thread attempts each site that it names at most once. So no serial exceeds the number of pairs of a thread and a site that it names.
+-- The recipes that attempts to link the sites that calls name can ask for. Each thread attempts each site that it names at most once.
+-- So no serial exceeds the number of pairs of a thread and a site that it names.
+abbrev pub named_edits : Given → List (List Call) → List (List Key)
+named_edits given threads = flat_map (λ sites. sites_edits given (pairs_named threads) sites) (naming_of threads)
+
+-- The recipes that a run can ask for, whichever attempts link its sites and resolve its dynamic constants: those of its calls, and of attempts to link the
+-- sites that calls name, where each constant has any serial. Each thread attempts each constant at most once.
 abbrev pub all_edits : Given → List (List Call) → List (List Key)
 all_edits given threads =
-    plan_edits given.leaves threads ++ flat_map (λ sites. sites_edits given (pairs_named threads) sites) (naming_of threads)
+    plan_edits given.leaves threads ++ flat_map (λ table. named_edits (with_serials table given) threads) (const_tables given (length threads))
 
 -- how many forms a run can need: the number of different recipes that it can ask for
 abbrev pub forms_needed : Given → List (List Call) → ℕ

@@ -7,10 +7,13 @@ use Rattle.mh_values.specs.Same.{is_same_method_type}
 use Rattle.mh_leaf.specs.LeafTable.{LeafTable}
 use Rattle.mh_tree.specs.Rows.{TypeOrRefusal}
 use Rattle.mh_tree.specs.Typing.{type_of}
-use Rattle.mh_jobs.specs.Given.{Given}
+use Rattle.mh_jobs.specs.Given.{Given, Found}
+use Rattle.mh_link.specs.Constants.{const_under, values_of}
+use Rattle.mh_link.specs.Named.{Constants, run_of}
 use Rattle.mh_link.specs.Linked as link
 use Rattle.mh_link.specs.Linked.{held_by}
 use Rattle.mh_link.specs.Sites.{linked_at}
+use Rattle.mh_report.specs.declared.table.ConstRow.{ConstRow}
 use Rattle.mh_report.specs.declared.table.Recorded.{Recorded}
 use Rattle.mh_report.specs.declared.table.Shown.{Shown}
 use Rattle.mh_report.specs.declared.table.Shown.TheVariants as shown
@@ -42,6 +45,25 @@ recorded given table = recorded_from given 0 table
 -- for each site the serial of the attempt that linked it
 abbrev pub serials_of : List (Option Recorded) → Serials
 serials_of entries = map (λ entry. option_map (λ r. r.serial) entry) entries
+
+-- ---- dynamic constants
+
+-- what the attempt with a serial number records of a constant, where constants are what they are known to be
+abbrev pub row_of : Constants → Found → ℕ → ℕ → ConstRow
+row_of run known c serial = record { serial = serial; value = const_under run known c serial }
+
+-- what is recorded of the constants from this number on, if these attempts resolved them
+abbrev pub rows_from : Constants → Found → ℕ → Serials → List (Option ConstRow)
+rows_from run known c [] = []
+rows_from run known c (serial ∷ table) = option_map (row_of run known c) serial ∷ rows_from run known (c + 1) table
+
+-- what is recorded of each constant, if these attempts resolved them
+abbrev pub rows : Given → Serials → List (Option ConstRow)
+rows given table = rows_from (run_of given) (values_of (run_of given) table) 0 table
+
+-- for each constant the serial of the attempt that resolved it
+abbrev pub row_serials : List (Option ConstRow) → Serials
+row_serials entries = map (λ entry. option_map (λ row. row.serial) entry) entries
 
 -- ---- types
 

@@ -1,5 +1,5 @@
 -- The report on a run.
-use Rattle.std.specs.Prelude.{ℕ, ◌+◌, List, [], ◌∷◌, ◌++◌, codes, Option, None, Some}
+use Rattle.std.specs.Prelude.{ℕ, ◌+◌, List, [], ◌∷◌, ◌++◌, codes, Option, None, Some, Ok, Err}
 use Rattle.std.specs.List.{flat_map}
 use Rattle.std.specs.Fmt.{decimal}
 use Rattle.mh_values.specs.declared.calls.LeafCall.{LeafCall}
@@ -8,7 +8,9 @@ use Rattle.mh_values.specs.declared.value.Outcome.TheVariants.{Return, Throw}
 use Rattle.mh_values.specs.declared.value.Value.{Value}
 use Rattle.mh_values.specs.Computation.{Gave, Threw, Stuck}
 use Rattle.mh_values.specs.declared.class.Class.{Class}
+use Rattle.mh_jobs.specs.Thrown.{OrThrown}
 use Rattle.mh_texts.specs.Printed.{shown_value, shown_type, shown_exception}
+use Rattle.mh_report.specs.declared.table.ConstRow.{ConstRow}
 use Rattle.mh_report.specs.declared.table.Recorded.{Recorded}
 use Rattle.mh_report.specs.declared.table.Shown.{Shown}
 use Rattle.mh_report.specs.declared.table.Shown.TheVariants as shown
@@ -36,6 +38,25 @@ site_text classes site entry = codes "site " ++ decimal site ++ codes " " ++ rec
 abbrev pub sites_text : List Class → ℕ → List (Option Recorded) → List ℕ
 sites_text classes site [] = []
 sites_text classes site (entry ∷ table) = site_text classes site entry ++ sites_text classes (site + 1) table
+
+-- the value of a dynamic constant, or its error
+abbrev pub constant_value_text : List Class → OrThrown Value → List ℕ
+constant_value_text classes (Ok value) = codes "value " ++ shown_value classes value
+constant_value_text classes (Err e) = codes "error " ++ shown_exception classes e
+
+-- what is recorded of a constant, or `none`
+abbrev pub row_text : List Class → Option ConstRow → List ℕ
+row_text classes None = codes "none"
+row_text classes (Some row) = codes "serial " ++ decimal row.serial ++ codes " " ++ constant_value_text classes row.value
+
+-- the line of a constant
+abbrev pub constant_text : List Class → ℕ → Option ConstRow → List ℕ
+constant_text classes c entry = codes "constant " ++ decimal c ++ codes " " ++ row_text classes entry ++ lf
+
+-- the lines of the constants from this number on
+abbrev pub constants_text : List Class → ℕ → List (Option ConstRow) → List ℕ
+constants_text classes c [] = []
+constants_text classes c (entry ∷ rows) = constant_text classes c entry ++ constants_text classes (c + 1) rows
 
 -- the value that was returned, or `void`
 abbrev pub returned_text : List Class → Option Value → List ℕ
@@ -75,7 +96,7 @@ threads_text classes n (results ∷ threads) = thread_text classes n results ++ 
 abbrev pub summary_text : ℕ → ℕ → ℕ → List ℕ
 summary_text attempts forms types = codes "attempts " ++ decimal attempts ++ codes " forms " ++ decimal forms ++ codes " types " ++ decimal types ++ lf
 
--- the report: the sites, the threads, and the last line
-abbrev pub report_text : List Class → List (Option Recorded) → List (List Result) → ℕ → ℕ → ℕ → List ℕ
-report_text classes table threads attempts forms types =
-    sites_text classes 0 table ++ threads_text classes 0 threads ++ summary_text attempts forms types
+-- the report: the sites, the constants, the threads, and the last line
+abbrev pub report_text : List Class → List (Option Recorded) → List (Option ConstRow) → List (List Result) → ℕ → ℕ → ℕ → List ℕ
+report_text classes table constants threads attempts forms types =
+    sites_text classes 0 table ++ constants_text classes 0 constants ++ threads_text classes 0 threads ++ summary_text attempts forms types

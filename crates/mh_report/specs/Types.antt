@@ -1,5 +1,5 @@
 -- The types that a run can need, and whether a table of types has slots for them.
-use Rattle.std.specs.Prelude.{ℕ, ◌==◌, ◌<◌, ◌≤◌, List, [], ◌∷◌, ◌++◌, filter}
+use Rattle.std.specs.Prelude.{ℕ, ◌==◌, ◌<◌, ◌≤◌, List, [], ◌∷◌, ◌++◌, filter, length}
 use Rattle.std.specs.List.{flat_map, range_with_len}
 use Rattle.std.specs.Set.{distinct_count}
 use Rattle.mh_values.specs.declared.types.MethodTy.{MethodTy}
@@ -9,11 +9,12 @@ use Rattle.mh_leaf.specs.LeafTable.{LeafTable}
 use Rattle.mh_tree.specs.Tree as tree
 use Rattle.mh_jobs.specs.Given.{Given}
 use Rattle.mh_link.specs.Made.{types_of}
-use Rattle.mh_link.specs.Sites.{types_at}
+use Rattle.mh_link.specs.Sites.{types_at, with_serials}
 use Rattle.mh_plan.specs.declared.call.Call.{Call}
 use Rattle.mh_plan.specs.declared.call.Call.TheVariants.{Exact, Generic, Indy}
 use Rattle.mh_plan.specs.Naming.{naming_of, pairs_named}
 use Rattle.mh_report.specs.declared.attempt.Attempt.{Attempt}
+use Rattle.mh_report.specs.Forms.{const_tables}
 
 -- ---- the types that a run can need
 
@@ -43,10 +44,16 @@ site_types given most site = flat_map (λ serial. types_at given site serial) (r
 abbrev pub sites_types : Given → ℕ → List ℕ → List MethodTy
 sites_types given most sites = flat_map (λ site. site_types given most site) sites
 
--- The types that a run can need, whichever attempts link its sites: those of the leaves that it calls, and of the nodes that attempts make.
--- Each thread attempts each site that it names at most once. So no serial exceeds the number of pairs of a thread and a site that it names.
+-- The types of the nodes that attempts to link the sites that calls name can make. Each thread attempts each site that it names at most once.
+-- So no serial exceeds the number of pairs of a thread and a site that it names.
+abbrev pub named_types : Given → List (List Call) → List MethodTy
+named_types given threads = flat_map (λ sites. sites_types given (pairs_named threads) sites) (naming_of threads)
+
+-- The types that a run can need, whichever attempts link its sites and resolve its dynamic constants: those of the leaves that it calls, and of the nodes
+-- that attempts make, where each constant has any serial. Each thread attempts each constant at most once.
 abbrev pub all_types : Given → List (List Call) → List MethodTy
-all_types given threads = plan_types given.leaves threads ++ flat_map (λ sites. sites_types given (pairs_named threads) sites) (naming_of threads)
+all_types given threads =
+    plan_types given.leaves threads ++ flat_map (λ table. named_types (with_serials table given) threads) (const_tables given (length threads))
 
 -- ---- whether there are slots for them
 

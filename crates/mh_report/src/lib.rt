@@ -1,5 +1,5 @@
 //! Finished runs: the answers of the calls, the attempts that linked the call sites, what is
-//! recorded there, and the report.
+//! recorded there and of the dynamic constants, and the report.
 #![tactic(auto)]
 
 mod answer;
@@ -10,4 +10,4 @@ mod table;
 pub use answer::{Answers, ThreadAnswers};
 pub use attempt::{Attempt, Attempts, Serials};
 pub use printing::{Summary, push_answer, report};
-pub use table::{Recorded, Shown, Table};
+pub use table::{ConstRow, ConstRows, Recorded, Shown, Table};

@@ -1,16 +1,16 @@
 ghost use Rattle.std.specs.Prelude.{◌≡◌, ◌+◌, ◌++◌, ◌<◌, ◌≤◌, ◌^◌, length, IfOk, OnOk, codes, List};
 ghost use Rattle.std.specs.Fmt.{decimal};
 ghost use Rattle.mh_values.specs.declared.class.Class.{Class};
-ghost use Rattle.mh_report.specs.Text.{linked_text, recorded_text, site_text, sites_text, outcome_text, returned_text, calls_text, result_line, results_text, thread_text, threads_text, summary_text, report_text};
+ghost use Rattle.mh_report.specs.Text.{linked_text, recorded_text, site_text, sites_text, constant_value_text, row_text, constant_text, constants_text, outcome_text, returned_text, calls_text, result_line, results_text, thread_text, threads_text, summary_text, report_text};
 ghost use Rattle.mh_report.specs.Results.{result_said, thread_said, results_said};
 
-use crate::{Recorded, Shown, Table, ThreadAnswers};
+use crate::{ConstRow, ConstRows, Recorded, Shown, Table, ThreadAnswers};
 use itoa::Buffer;
 use mh_base::NoMemory;
 use mh_form::Calls;
 use mh_handle::Answer;
 use mh_texts::{show_exc, show_type, show_value};
-use mh_values::{Classes, LeafId, Outcome, Value};
+use mh_values::{Classes, Exc, LeafId, Outcome, Value};
 use std::alloc::Global;
 
 fn push(text: &mut Vec<u8>, bytes: &[u8]) -> Result<(), NoMemory>
@@ -96,6 +96,80 @@ fn push_sites(
 {
     for number in 0..table.len() {
         push_site(alloc, text, number, table.get(number), classes)?;
+    }
+    Ok(())
+}
+
+// The value of a constant, or its error.
+fn push_constant_value(
+    alloc: Global,
+    text: &mut Vec<u8>,
+    value: &Result<Value, Exc>,
+    classes: &Classes,
+) -> Result<(), NoMemory>
+    ensures { OnOk result
+        (text.new.items ≡ text.old.items ++ constant_value_text classes.now value.now) }
+{
+    match value {
+        Ok(value) => {
+            push(text, b"value ")?;
+            push(text, &show_value(alloc, value, classes)?)
+        }
+        Err(exc) => {
+            push(text, b"error ")?;
+            push(text, &show_exc(alloc, exc, classes)?)
+        }
+    }
+}
+
+// What is recorded of a constant.
+fn push_row(
+    alloc: Global,
+    text: &mut Vec<u8>,
+    entry: &Option<ConstRow>,
+    classes: &Classes,
+) -> Result<(), NoMemory>
+    ensures { OnOk result (text.new.items ≡ text.old.items ++ row_text classes.now entry.now) }
+{
+    let Some(row) = entry else {
+        return push(text, b"none");
+    };
+    push(text, b"serial ")?;
+    push_number(text, row.serial)?;
+    push(text, b" ")?;
+    push_constant_value(alloc, text, &row.value, classes)
+}
+
+// The line of a constant.
+fn push_constant(
+    alloc: Global,
+    text: &mut Vec<u8>,
+    number: usize,
+    entry: &Option<ConstRow>,
+    classes: &Classes,
+) -> Result<(), NoMemory>
+    ensures { OnOk result
+        (text.new.items ≡ text.old.items ++ constant_text classes.now number entry.now) }
+{
+    push(text, b"constant ")?;
+    push_number(text, number as u64)?;
+    push(text, b" ")?;
+    push_row(alloc, text, entry, classes)?;
+    push(text, b"\n")
+}
+
+// The lines of all constants.
+fn push_constants(
+    alloc: Global,
+    text: &mut Vec<u8>,
+    rows: &ConstRows,
+    classes: &Classes,
+) -> Result<(), NoMemory>
+    ensures { OnOk result
+        (text.new.items ≡ text.old.items ++ constants_text classes.now 0 rows.now) }
+{
+    for number in 0..rows.len() {
+        push_constant(alloc, text, number, rows.get(number), classes)?;
     }
     Ok(())
 }
@@ -251,22 +325,24 @@ pub struct Summary {
     pub types: u32,
 }
 
-/// The report on a run. It has a line for each call site with what is recorded there. For each
-/// thread it has its number and a line for each of its calls. The last line counts attempts, forms
-/// and types.
+/// The report on a run. It has a line for each call site with what is recorded there, and a line
+/// for each dynamic constant with what is recorded of it. For each thread it has its number and a
+/// line for each of its calls. The last line counts attempts to link call sites, forms and types.
 pub fn report(
     alloc: Global,
     threads: &ThreadAnswers,
     table: &Table,
+    constants: &ConstRows,
     summary: Summary,
     classes: &Classes,
 ) -> Result<Vec<u8>, NoMemory>
     ensures { IfOk result (λ text. text.items
-        ≡ report_text classes.now table.now (results_said threads.now)
+        ≡ report_text classes.now table.now constants.now (results_said threads.now)
         summary.attempts summary.forms summary.types) }
 {
     let mut text = Vec::new(alloc);
     push_sites(alloc, &mut text, table, classes)?;
+    push_constants(alloc, &mut text, constants, classes)?;
     push_threads(alloc, &mut text, threads, classes)?;
     push_summary(&mut text, summary)?;
     Ok(text)

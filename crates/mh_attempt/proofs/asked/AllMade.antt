@@ -1,5 +1,5 @@
 -- Handles of several operands: of the first, and then of the others.
-use Rattle.std.proofs.Common.{◌≡◌, refl, sym, subst, ap, ◌∙◌, ℕ, List, [], ◌∷◌, ◌++◌, length, Result, Ok, Err, arith}
+use Rattle.std.proofs.Common.{◌≡◌, refl, sym, subst, ℕ, List, [], ◌∷◌, ◌++◌, length, Result, Ok, Err, arith}
 use Rattle.std.specs.Prelude.{IsErrAnd}
 use Rattle.mh_edit.specs.declared.key.Key.{Key}
 use Rattle.mh_values.specs.declared.types.MethodTy.{MethodTy}

@@ -8,7 +8,6 @@ use Rattle.mh_tree.specs.Tree as tree
 use Rattle.mh_handle.specs.Recipe.{recipe}
 use Rattle.mh_handle.specs.SameRecipes.{same_recipe}
 use Rattle.mh_jobs.specs.declared.job.BootstrapCall.{BootstrapCall}
-use Rattle.mh_jobs.specs.declared.job.Job.{Job}
 use Rattle.mh_jobs.specs.declared.job.Method.{Method}
 use Rattle.mh_jobs.specs.declared.job.Method.TheVariants as method
 use Rattle.mh_jobs.specs.Thrown.{OrThrown}
@@ -21,7 +20,6 @@ use Rattle.mh_script.specs.declared.script.Step.TheVariants as step
 use Rattle.mh_link.specs.Linked.{at_start, called_script, stepped}
 use Rattle.mh_link.specs.Made.{concat_nodes, handles_of, nodes, nodes_from, nodes_of, nodes_of_method, nodes_of_step, nodes_of_uses, unless_thrown}
 use Rattle.mh_link.specs.Operands.{Frame, handle_in}
-use Rattle.mh_link.specs.Resolved.{job_call}
 use Rattle.mh_link.specs.Operations.{node_of}
 use Rattle.mh_attempt.specs.Recipes.{asked_itself, attempt_asked, method_asked, script_asked, spread_asked, step_asked, use_asked}
 use Rattle.mh_attempt.proofs.beginnings.KnownHandles.{recipes_of}
@@ -106,6 +104,6 @@ module _ (leaves : LeafTable) where
   method-among scripts serial call method.Concat = same-trees (concat_nodes leaves.classes call)
 
   -- of an attempt
-  pub attempt-among : (scripts : List Script) (job : Job) (serial : ℕ) →
-      AreTreesAmong (attempt_asked leaves scripts job serial) (nodes leaves scripts job serial)
-  attempt-among scripts job serial = unless-among (job_call job) _ _ (λ call. method-among scripts serial call call.method)
+  pub attempt-among : (scripts : List Script) (made : OrThrown BootstrapCall) (serial : ℕ) →
+      AreTreesAmong (attempt_asked leaves scripts made serial) (nodes leaves scripts made serial)
+  attempt-among scripts made serial = unless-among made _ _ (λ call. method-among scripts serial call call.method)

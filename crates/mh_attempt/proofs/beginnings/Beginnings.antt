@@ -16,7 +16,7 @@ use Rattle.mh_jobs.specs.declared.job.BootstrapCall.{BootstrapCall}
 use Rattle.mh_jobs.specs.declared.job.Job.{Job}
 use Rattle.mh_jobs.specs.declared.job.Method.{Method}
 use Rattle.mh_jobs.specs.declared.job.Method.TheVariants as method
-use Rattle.mh_jobs.specs.Given.{IsJob}
+use Rattle.mh_jobs.specs.Given.{IsJob, Found}
 use Rattle.mh_jobs.specs.Sites.{site_job}
 use Rattle.mh_jobs.specs.Thrown.{OrThrown, ◌>>=◌}
 use Rattle.mh_script.specs.declared.script.End.{End}
@@ -25,7 +25,7 @@ use Rattle.mh_script.specs.declared.script.Step.{Step}
 use Rattle.mh_link.specs.Concatenation.{pieces_given}
 use Rattle.mh_link.specs.Linked.{at_start, called_script, ended, stepped}
 use Rattle.mh_link.specs.Made.{edits, nodes, nodes_from, nodes_of_call, nodes_of_method, nodes_of_step, returned, unless_thrown}
-use Rattle.mh_link.specs.Resolved.{job_call}
+use Rattle.mh_link.specs.Resolved.{call_under}
 use Rattle.mh_link.specs.Operands.{Frame}
 use Rattle.mh_link.proofs.typing.Attempts.{made-typed}
 use Rattle.mh_link.proofs.typing.Nodes.{IsTyped}
@@ -64,9 +64,9 @@ module _ (leaves : LeafTable) where
       (same-among all (known ++ recipes_of leaves (now ++ later))
       (append_assoc known (recipes_of leaves now) (recipes_of leaves later) ∙ ap (λ rs. known ++ rs) (sym (map-append (recipe leaves) now later)))))
 
-  attempt-edits : (scripts : List Script) (job : Job) (serial : ℕ) →
-      AreAmong (edits (recipe leaves) leaves scripts job serial) (attempt_recipes leaves scripts job serial)
-  attempt-edits scripts job serial = called (job_call job)
+  attempt-edits : (scripts : List Script) (made : OrThrown BootstrapCall) (serial : ℕ) →
+      AreAmong (edits (recipe leaves) leaves scripts made serial) (attempt_recipes leaves scripts made serial)
+  attempt-edits scripts made serial = called made
     where
       joined : (ty : MethodTy) (m : OrThrown (List Piece)) →
           AreAmong (edits_of leaves (unless_thrown (m >>= (λ ps. Ok (tree.Concat ty ps))) (λ t. t ∷ [])))
@@ -92,18 +92,21 @@ module _ (leaves : LeafTable) where
       called (Err e) = none-among []
 
 -- the nodes of the attempt for a job of a run have types
-job-typed : (leaves : LeafTable) (scripts : List Script) (class : class_file.Class) (first : ℕ) (job : Job) (serial : ℕ) (o : Option SiteView) →
-    option_map (site_job leaves scripts class first job.site) o ≡ Some job → All (IsTyped leaves) (nodes leaves scripts job serial)
-job-typed leaves scripts class first job serial (Some site) h =
-    subst (λ j. All (IsTyped leaves) (nodes leaves scripts j serial)) (some_is (site_job leaves scripts class first job.site site) job h)
-    (made-typed leaves scripts class first job.site site serial)
-job-typed leaves scripts class first job serial None h = absurd cc
+job-typed : (leaves : LeafTable) (scripts : List Script) (class : class_file.Class) (first : ℕ) (job : Job) (known : Found) (serial : ℕ)
+    (o : Option SiteView) → option_map (site_job leaves scripts class first job.site) o ≡ Some job →
+    All (IsTyped leaves) (nodes leaves scripts (call_under known job.call) serial)
+job-typed leaves scripts class first job known serial (Some site) h =
+    subst (λ (j : Job). All (IsTyped leaves) (nodes leaves scripts (call_under known j.call) serial))
+    (some_is (site_job leaves scripts class first job.site site) job h) (made-typed leaves scripts class first site known serial)
+job-typed leaves scripts class first job known serial None h = absurd cc
 
 -- a recipe is one of the edits of an attempt where a form of it is asked for
-pub edits-same : (leaves : LeafTable) (scripts : List Script) (job : Job) (serial : ℕ) → IsJob leaves scripts job → (r : List Key) →
-    is_one (edits (recipe leaves) leaves scripts job serial) r ≡ is_one (attempt_recipes leaves scripts job serial) r
-edits-same leaves scripts job serial is r =
-    let made = nodes leaves scripts job serial in
-    among-same (edits (recipe leaves) leaves scripts job serial) (attempt_recipes leaves scripts job serial) (attempt-edits leaves scripts job serial)
-    (among-among (attempt_recipes leaves scripts job serial) (recipes_of leaves made) (edits_of leaves made) (attempt-among leaves scripts job serial)
-    (recipes-among leaves made (job-typed leaves scripts is.0 is.2 job serial (slice_get is.0.sites is.1) is.3))) r
+pub edits-same : (leaves : LeafTable) (scripts : List Script) (job : Job) (known : Found) (serial : ℕ) → IsJob leaves scripts job → (r : List Key) →
+    is_one (edits (recipe leaves) leaves scripts (call_under known job.call) serial) r
+    ≡ is_one (attempt_recipes leaves scripts (call_under known job.call) serial) r
+edits-same leaves scripts job known serial is r =
+    let call = call_under known job.call in
+    let made = nodes leaves scripts call serial in
+    among-same (edits (recipe leaves) leaves scripts call serial) (attempt_recipes leaves scripts call serial) (attempt-edits leaves scripts call serial)
+    (among-among (attempt_recipes leaves scripts call serial) (recipes_of leaves made) (edits_of leaves made) (attempt-among leaves scripts call serial)
+    (recipes-among leaves made (job-typed leaves scripts is.0 is.2 job known serial (slice_get is.0.sites is.1) is.3))) r

@@ -12,10 +12,10 @@ use Rattle.mh_script.specs.declared.script.Script.{Script}
 use Rattle.mh_jobs.specs.declared.job.Argument.TheVariants as argument
 use Rattle.mh_jobs.specs.declared.job.BootstrapCall.{BootstrapCall}
 use Rattle.mh_jobs.specs.declared.job.Job.{Job}
-use Rattle.mh_jobs.specs.Given.{IsJob}
+use Rattle.mh_jobs.specs.Given.{IsJob, Found}
 use Rattle.mh_jobs.specs.Sites.{site_bootstrap, site_job}
 use Rattle.mh_link.specs.Linked.{IsThere}
-use Rattle.mh_link.specs.Resolved.{call_under, job_call, nothing_known}
+use Rattle.mh_link.specs.Resolved.{call_under}
 use Rattle.mh_link.proofs.typing.Attempts.{method-there}
 use Rattle.mh_link.proofs.typing.Leaves.{call-typed}
 use Rattle.mh_link.proofs.constants.SiteCalls.{call-made}
@@ -39,18 +39,18 @@ job-site leaves scripts job is =
     let made = mapped (slice_get is.0.sites is.1) (site_job leaves scripts is.0 is.2 job.site) job is.3 in
     record { class = is.0; first = is.2; site = made.0; made = made.1 }
 
-job-called : (leaves : LeafTable) (scripts : List Script) (job : Job) (call : BootstrapCall) (is : IsMade leaves scripts job) → job_call job ≡ Ok call →
-    call_under nothing_known (site_bootstrap leaves scripts is.class is.first is.site) ≡ Ok call
-job-called leaves scripts job call is called = ap job_call is.made ∙ called
+job-called : (leaves : LeafTable) (scripts : List Script) (job : Job) (known : Found) (call : BootstrapCall) (is : IsMade leaves scripts job) →
+    call_under known job.call ≡ Ok call → call_under known (site_bootstrap leaves scripts is.class is.first is.site) ≡ Ok call
+job-called leaves scripts job known call is called = ap (λ (j : Job). call_under known j.call) is.made ∙ called
 
 -- ---- the method
 
 -- the script of the bootstrap method, if it is that of one, is there
-pub job-method : (leaves : LeafTable) (scripts : List Script) (job : Job) (call : BootstrapCall) → IsJob leaves scripts job → job_call job ≡ Ok call →
-    IsThere scripts call.method
-job-method leaves scripts job call of called =
+pub job-method : (leaves : LeafTable) (scripts : List Script) (job : Job) (known : Found) (call : BootstrapCall) → IsJob leaves scripts job →
+    call_under known job.call ≡ Ok call → IsThere scripts call.method
+job-method leaves scripts job known call of called =
     let is = job-site leaves scripts job of in
-    method-there leaves scripts is.class is.first is.site nothing_known call (job-called leaves scripts job call is called)
+    method-there leaves scripts is.class is.first is.site known call (job-called leaves scripts job known call is called)
 
 -- ---- the leaves
 
@@ -60,20 +60,20 @@ leaf-within (x ∷ xs) zero own h = omega arith
 leaf-within (x ∷ xs) (suc k) own h = let within = leaf-within xs k own h in omega (arith, within)
 
 -- the static arguments that are leaves are leaves of the table
-pub job-leaves : (leaves : LeafTable) (scripts : List Script) (job : Job) (call : BootstrapCall) → IsJob leaves scripts job → job_call job ≡ Ok call →
-    HasLeaves leaves call
-job-leaves leaves scripts job call of called n (argument.Leaf l) at =
+pub job-leaves : (leaves : LeafTable) (scripts : List Script) (job : Job) (known : Found) (call : BootstrapCall) → IsJob leaves scripts job →
+    call_under known job.call ≡ Ok call → HasLeaves leaves call
+job-leaves leaves scripts job known call of called n (argument.Leaf l) at =
     let is = job-site leaves scripts job of in
-    let typed = call-typed leaves scripts is.class is.first is.site nothing_known call (job-called leaves scripts job call is called) n l at in
+    let typed = call-typed leaves scripts is.class is.first is.site known call (job-called leaves scripts job known call is called) n l at in
     leaf-within leaves.leaves l.0 typed.0 typed.1
-job-leaves leaves scripts job call of called n a at = tt
+job-leaves leaves scripts job known call of called n a at = tt
 
 -- ---- the type
 
 -- the call has the type of the job's site
-pub job-type : (leaves : LeafTable) (scripts : List Script) (job : Job) (call : BootstrapCall) → IsJob leaves scripts job → job_call job ≡ Ok call →
-    job.ty ≡ Some call.ty
-job-type leaves scripts job call of called =
+pub job-type : (leaves : LeafTable) (scripts : List Script) (job : Job) (known : Found) (call : BootstrapCall) → IsJob leaves scripts job →
+    call_under known job.call ≡ Ok call → job.ty ≡ Some call.ty
+job-type leaves scripts job known call of called =
     let is = job-site leaves scripts job of in
-    let made = call-made leaves scripts is.class is.first is.site nothing_known call (job-called leaves scripts job call is called) in
+    let made = call-made leaves scripts is.class is.first is.site known call (job-called leaves scripts job known call is called) in
     sym (ap (λ (j : Job). j.ty) is.made) ∙ ap result_ok made.typed

@@ -16,13 +16,11 @@ use Rattle.mh_script.specs.declared.script.Step.{Step}
 use Rattle.mh_script.specs.declared.scripts.ScriptId.{ScriptId}
 use Rattle.mh_script.specs.Limits.{CanRun}
 use Rattle.mh_jobs.specs.declared.job.BootstrapCall.{BootstrapCall}
-use Rattle.mh_jobs.specs.declared.job.Job.{Job}
 use Rattle.mh_jobs.specs.declared.job.Method.TheVariants as method
-use Rattle.mh_jobs.specs.Thrown.{◌>>=◌}
+use Rattle.mh_jobs.specs.Thrown.{OrThrown, ◌>>=◌}
 use Rattle.mh_link.specs.Concatenation.{concat_of}
 use Rattle.mh_link.specs.Linked.{at_start, called_script, method_target, ran, target_of}
 use Rattle.mh_link.specs.Made.{concat_nodes, nodes_from, nodes_of_call, nodes_of_method, types_of, unless_thrown}
-use Rattle.mh_link.specs.Resolved.{job_call}
 use Rattle.mh_attempt.specs.declared.registers.Registers.{Registers}
 use Rattle.mh_attempt.specs.AskedTypes.{job_types, script_types, target_types}
 use Rattle.mh_attempt.specs.Linkage.{target_recipes}
@@ -102,11 +100,11 @@ module _ (leaves : LeafTable) (scripts : List Script) (serial : ℕ) (call : Boo
 -- ---- a job
 
 -- a job calls its bootstrap method, and asks for the forms that this asks for
-pub job-asked : (leaves : LeafTable) (scripts : List Script) (job : Job) (serial : ℕ) (call : BootstrapCall) → job_call job ≡ Ok call →
-    attempt_recipes leaves scripts job serial ≡ target_recipes leaves scripts serial call
-job-asked leaves scripts job serial call called = ap (λ m. map (recipe leaves) (unless_thrown m (call_asked leaves scripts serial))) called
+pub job-asked : (leaves : LeafTable) (scripts : List Script) (made : OrThrown BootstrapCall) (serial : ℕ) (call : BootstrapCall) → made ≡ Ok call →
+    attempt_recipes leaves scripts made serial ≡ target_recipes leaves scripts serial call
+job-asked leaves scripts made serial call called = ap (λ m. map (recipe leaves) (unless_thrown m (call_asked leaves scripts serial))) called
 
 -- and for the types that this asks for
-pub job-types : (leaves : LeafTable) (scripts : List Script) (job : Job) (serial : ℕ) (call : BootstrapCall) → job_call job ≡ Ok call →
-    job_types leaves scripts job serial ≡ target_types leaves scripts serial call
-job-types leaves scripts job serial call called = ap (λ m. types_of leaves (unless_thrown m (nodes_of_call leaves scripts serial))) called
+pub job-types : (leaves : LeafTable) (scripts : List Script) (made : OrThrown BootstrapCall) (serial : ℕ) (call : BootstrapCall) → made ≡ Ok call →
+    job_types leaves scripts made serial ≡ target_types leaves scripts serial call
+job-types leaves scripts made serial call called = ap (λ m. types_of leaves (unless_thrown m (nodes_of_call leaves scripts serial))) called

@@ -1,21 +1,19 @@
 -- A switch of operands: what its rule tells of them.
-use Rattle.std.proofs.Common.{◌≡◌, refl, sym, ap, subst, ◌∙◌, ℕ, suc, ◌+◌, ◌≤◌, Bool, ◌&&◌, true, false, List, [], ◌∷◌, length, nat_le, nat_lt, slice_get, Some, Result, Ok, Err, codes, arith}
+use Rattle.std.proofs.Common.{◌≡◌, refl, sym, ap, subst, ◌∙◌, ℕ, suc, ◌+◌, ◌≤◌, true, List, [], ◌∷◌, length, Result, Ok, codes, arith}
 use Rattle.std.specs.List.{list_all}
 use Rattle.std.proofs.lemmas.Bool.{and_parts, leb-true}
-use Rattle.mh_base.specs.Provided.{provided}
 use Rattle.mh_base.proofs.Inversion.{ok_is}
 use Rattle.mh_values.specs.declared.types.MethodTy.{MethodTy}
-use Rattle.mh_values.specs.Same.{is_same_method_type, is_same_return}
+use Rattle.mh_values.specs.Same.{is_same_method_type}
 use Rattle.mh_values.proofs.SameTypes.{same_method_type-is}
 use Rattle.mh_intern.specs.Views.{SeatView}
 use Rattle.mh_leaf.specs.LeafTable.{LeafTable}
-use Rattle.mh_leaf.specs.Outcome.{int_type}
 use Rattle.mh_tree.specs.declared.error.CheckError.{CheckError}
 use Rattle.mh_tree.specs.Check.{TellsRow}
 use Rattle.mh_tree.specs.Rows.{illegal, limited, may_switch, most_cases, switch_row}
 use Rattle.mh_tree.specs.Tree.{Cases, Tree, cases_of, cases_weight, weight}
 use Rattle.mh_tree.specs.Tree as tree
-use Rattle.mh_tree.specs.Typing.{TypesOrRefusal, and_types, type_of, types_of_cases, with_type, with_types}
+use Rattle.mh_tree.specs.Typing.{and_types, type_of, types_of_cases, with_type, with_types}
 use Rattle.mh_tree.proofs.Provided.{provided-parts}
 use Rattle.mh_tree.proofs.RowParts.{and_types-parts, switch_row-parts, with_type-parts, with_types-parts}
 use Rattle.mh_edit.specs.declared.key.Key.TheVariants as key
@@ -33,7 +31,7 @@ use Rattle.mh_link.specs.Operations.{handles_in}
 use Rattle.mh_attempt.specs.declared.handle.HandleOperand.{HandleOperand}
 use Rattle.mh_attempt.specs.declared.handle.HandleOperand.TheVariants as operand
 use Rattle.mh_attempt.specs.Cases.{AreAllHeldIn, AreLeavesOfType, IsLeafOfType, StandForEach, StandForSome, TellsCases, leaf_recipe, own_weight, own_weights}
-use Rattle.mh_attempt.specs.Nodes.{AreAllOperands, IsOperand, IsTypedAs}
+use Rattle.mh_attempt.specs.Nodes.{AreAllOperands, IsTypedAs}
 use Rattle.mh_attempt.specs.Registers.{StandsFor, StandsForSome}
 use Rattle.mh_attempt.specs.Told.{TellsBy}
 

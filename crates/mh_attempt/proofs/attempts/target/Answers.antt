@@ -1,4 +1,6 @@
+use Rattle.mh_condy.specs.Nodes.{found_in}
 use Rattle.mh_attempt.specs.AskedTypes.{job_types, target_types}
+use Rattle.mh_attempt.specs.Constants.{call_in}
 use Rattle.mh_attempt.specs.Linkage.{target_recipes}
 use Rattle.mh_attempt.specs.Recipes.{attempt_recipes}
 use Rattle.mh_attempt.proofs.types.Adding.{adds-none, adds-unmade}
@@ -10,19 +12,20 @@ use Rattle.mh_attempt.proofs.attempts.target.Goals as goal
 
 pub call_bootstrap-requires-clause-method : goal.call_bootstrap-requires-clause-method
 call_bootstrap-requires-clause-method g c =
-    job-method c.args.w.now.leaves.now c.args.scripts.now c.args.job.now c.in_ok-call.call c.requires.job c.in_ok-call.ensures
+    job-method c.args.w.now.leaves.now c.args.scripts.now c.args.job.now (found_in c.args.constants.now.known) c.in_ok-call.call c.requires.job
+    c.in_ok-call.ensures
 
 pub call_bootstrap-requires-clause-leaves : goal.call_bootstrap-requires-clause-leaves
 call_bootstrap-requires-clause-leaves g c =
-    job-leaves c.args.w.now.leaves.now c.args.scripts.now c.args.job.now c.in_ok-call.call c.requires.job c.in_ok-call.ensures
+    job-leaves c.args.w.now.leaves.now c.args.scripts.now c.args.job.now (found_in c.args.constants.now.known) c.in_ok-call.call c.requires.job
+    c.in_ok-call.ensures
 
 pub returns-clause-asks : goal.returns-clause-asks
 returns-clause-asks g c =
     let leaves = c.args.w.now.leaves.now in
-    same-asks (attempt_recipes leaves c.args.scripts.now c.args.job.now c.args.serial)
-    (target_recipes leaves c.args.scripts.now c.args.serial c.in_ok-call.call)
-    c.args.w.now c.call_bootstrap.new.w c.call_bootstrap.result
-    (job-asked leaves c.args.scripts.now c.args.job.now c.args.serial c.in_ok-call.call c.in_ok-call.ensures)
+    let made = call_in c.args.constants.now c.args.job.now in
+    same-asks (attempt_recipes leaves c.args.scripts.now made c.args.serial) (target_recipes leaves c.args.scripts.now c.args.serial c.in_ok-call.call)
+    c.args.w.now c.call_bootstrap.new.w c.call_bootstrap.result (job-asked leaves c.args.scripts.now made c.args.serial c.in_ok-call.call c.in_ok-call.ensures)
     c.call_bootstrap.ensures.asks
 
 pub returns-in_err-call-clause-types : goal.returns-in_err-call-clause-types
@@ -34,7 +37,7 @@ returns-in_err-call-clause-types g c =
 pub returns-clause-asked : goal.returns-clause-asked
 returns-clause-asked g c =
     let leaves = c.args.w.now.leaves.now in
-    same-types (job_types leaves c.args.scripts.now c.args.job.now c.args.serial) (target_types leaves c.args.scripts.now c.args.serial c.in_ok-call.call)
-    c.args.w.now c.call_bootstrap.new.w c.call_bootstrap.result
-    (job-types leaves c.args.scripts.now c.args.job.now c.args.serial c.in_ok-call.call c.in_ok-call.ensures)
+    let made = call_in c.args.constants.now c.args.job.now in
+    same-types (job_types leaves c.args.scripts.now made c.args.serial) (target_types leaves c.args.scripts.now c.args.serial c.in_ok-call.call)
+    c.args.w.now c.call_bootstrap.new.w c.call_bootstrap.result (job-types leaves c.args.scripts.now made c.args.serial c.in_ok-call.call c.in_ok-call.ensures)
     c.call_bootstrap.ensures.asked

@@ -1,7 +1,5 @@
 use Rattle.std.proofs.Common.{subst, [], ◌∷◌, Ok, Err}
-use Rattle.mh_tree.specs.Tree as tree
 use Rattle.mh_handle.specs.declared.handle.Handle.{Handle}
-use Rattle.mh_handle.specs.Recipe.{recipe}
 use Rattle.mh_handle.specs.Works.{Makes}
 use Rattle.mh_attempt.specs.Cases.{leaf_recipe}
 use Rattle.mh_attempt.specs.Registers.{IsHeldIn}

@@ -1,7 +1,7 @@
-use Rattle.std.proofs.Common.{◌∙◌, ap, sym, subst, [], ◌∷◌, Ok}
+use Rattle.std.proofs.Common.{sym, subst, Ok}
 use Rattle.mh_link.specs.Operations.{handles_in}
 use Rattle.mh_attempt.specs.Cases.{TellsCases}
-use Rattle.mh_attempt.proofs.nodes.SwitchNodes.{told-first, told-none}
+use Rattle.mh_attempt.proofs.nodes.SwitchNodes.{told-first}
 use Rattle.mh_attempt.proofs.lines.nodes.+cases_of.Goals as goal
 
 pub returns-clause-asked : goal.returns-clause-asked

@@ -1,7 +1,7 @@
-use Rattle.std.proofs.Common.{◌∙◌, ap, sym, subst, [], ◌∷◌, List, Ok, length, arith}
+use Rattle.std.proofs.Common.{◌∙◌, ap, sym, subst, ◌∷◌, List, Ok, length, arith}
 use Rattle.mh_values.specs.declared.types.MethodTy.{MethodTy}
 use Rattle.mh_attempt.specs.Cases.{StandForEach, StandForSome}
-use Rattle.mh_attempt.proofs.nodes.SwitchNodes.{some-first, some-others, types-first, types-none}
+use Rattle.mh_attempt.proofs.nodes.SwitchNodes.{some-first, some-others, types-first}
 use Rattle.mh_attempt.proofs.lines.parts.+types_of.Goals as goal
 
 pub ty-requires : goal.ty-requires

@@ -1,6 +1,4 @@
-use Rattle.std.proofs.Common.{◌∙◌, sym, ap, [], ◌∷◌, Ok}
-use Rattle.std.specs.Prelude.{length}
-use Rattle.mh_tree.specs.Tree as tree
+use Rattle.std.proofs.Common.{◌∙◌, sym, ap, Ok}
 use Rattle.mh_attempt.proofs.nodes.SwitchNodes.{switch-told}
 use Rattle.mh_attempt.proofs.lines.parts.switch_type.Goals as goal
 

@@ -1,6 +1,5 @@
 use Rattle.std.proofs.Common.{◌+◌, ap, arith, length, sym, subst, [], ◌∷◌, ◌++◌, Ok, Err}
 use Rattle.mh_handle.specs.declared.handle.Handle.{Handle}
-use Rattle.mh_handle.proofs.holding.HoldOrders.{exchanges-back}
 use Rattle.mh_intern.specs.Exchanges.{Exchanges}
 use Rattle.mh_intern.proofs.Exchanging.{exchanges-still}
 use Rattle.mh_tree.specs.Tree.{Cases}
@@ -12,12 +11,12 @@ use Rattle.mh_attempt.specs.Nodes.{AreAllOperands}
 use Rattle.mh_attempt.specs.Recipes.{recipes_made}
 use Rattle.mh_attempt.specs.Several.{GoesOnOnce, IsReadyOnce}
 use Rattle.mh_attempt.proofs.types.Adding.{adds-back, adds-both, adds-none, holds-after, holds-came}
-use Rattle.mh_attempt.proofs.asked.AllMade.{adds-listed, adds-no_handles, all-unmade, asks-short, more-stand, no-items, none-stand, once-still, operands-yet, types-short}
-use Rattle.mh_attempt.proofs.asked.AskedNodes.{asks-still, asks-unchanged}
+use Rattle.mh_attempt.proofs.asked.AllMade.{adds-listed, adds-no_handles, all-unmade, asks-short, more-stand, once-still, operands-yet, types-short}
+use Rattle.mh_attempt.proofs.asked.AskedNodes.{asks-unchanged}
 use Rattle.mh_attempt.proofs.asked.AskedOperands.{asks-more, asks-unmade-both}
-use Rattle.mh_attempt.proofs.types.AskingTypes.{no_other-still, types-back}
+use Rattle.mh_attempt.proofs.types.AskingTypes.{types-back}
 use Rattle.mh_attempt.proofs.types.OperandTypes.{types-others, types-unmade_both}
-use Rattle.mh_attempt.proofs.asked.Once.{once-back, once-more, once-none, once-one, once-then, ready-one, ready-others}
+use Rattle.mh_attempt.proofs.asked.Once.{once-back, once-more, once-one, once-then, ready-one, ready-others}
 use Rattle.mh_attempt.proofs.lines.several.+make_all.Goals as goal
 
 -- ---- what the calls need

@@ -7,12 +7,14 @@ pub invoke_with-requires-clause-typed : goal.invoke_with-requires-clause-typed
 invoke_with-requires-clause-typed g c =
     let job = c.self.inside.job.now in
     let serial = c.self.inside.serial in
-    target-typed g.J.Run.given c.args.leaves.now job serial c.in-Target.target c.args.args.now c.requires.leaves
-    (subst (IsLinkage g.J.Run.given job serial) c.in-Target.is c.self.invariant) (rw (← c.self.view_is) at c.requires.typed)
+    let findings = c.self.inside.under.value.items in
+    target-typed g.J.Run.given c.args.leaves.now job serial findings c.in-Target.target c.args.args.now c.requires.leaves
+    (subst (IsLinkage g.J.Run.given job serial findings) c.in-Target.is c.self.invariant) (rw (← c.self.view_is) at c.requires.typed)
 
 pub invoke_with-requires-clause-runs : goal.invoke_with-requires-clause-runs
 invoke_with-requires-clause-runs g c =
     let job = c.self.inside.job.now in
     let serial = c.self.inside.serial in
-    target-runs g.J.Run.given c.args.leaves.now job serial c.in-Target.target c.args.args.now c.requires.leaves
-    (subst (IsLinkage g.J.Run.given job serial) c.in-Target.is c.self.invariant) (rw (← c.self.view_is) at c.requires.typed)
+    let findings = c.self.inside.under.value.items in
+    target-runs g.J.Run.given c.args.leaves.now job serial findings c.in-Target.target c.args.args.now c.requires.leaves
+    (subst (IsLinkage g.J.Run.given job serial findings) c.in-Target.is c.self.invariant) (rw (← c.self.view_is) at c.requires.typed)
