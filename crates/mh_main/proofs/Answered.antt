@@ -35,7 +35,7 @@ pub run-ends :
     IfAccepted (command_input command files) (λ a. a ≡ program p) →
     AreSame before now →
     (answer.status ≡ done → Writes (IsReportOf p answer) old new) →
-    (answer.status ≡ done → AreAnswersOf p answer.table answer.threads) →
+    (answer.status ≡ done → AreAnswersOf p answer.table answer.constants answer.threads) →
     (answer.status ≡ forms_full → Writes (IsFullOf p) old new) →
     (answer.status ≡ types_full → Writes (IsOverfullOf p) old new) →
     (answer.status ≡ write_failed → WritesPart (IsDueOf p answer) old new) →

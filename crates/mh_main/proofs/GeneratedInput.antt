@@ -23,6 +23,7 @@ use Rattle.mh_main.proofs.GeneratedFolds.{plan-made}
 use Rattle.mh_main.proofs.GeneratedJobs.{jobs-made}
 use Rattle.mh_main.proofs.GeneratedLength.{plan-short}
 use Rattle.mh_main.proofs.GeneratedTexts.{manifest_made, manifest_short, scripts_made, scripts_short}
+use Rattle.mh_main.proofs.Programs.{program_of}
 use Rattle.mh_main.proofs.ReadOn.{class-file-read, file-read}
 
 -- the input is accepted, whatever the number is
@@ -32,15 +33,15 @@ generated_accepted number =
     let leaves = manifest_made.0 in
     let all = scripts_made.0 in
     let class = class-made number in
-    let jobs = (jobs_of leaves all (class.0 ∷ [])).sites in
-    let threads = plan-made number leaves jobs (jobs-made leaves all class.0 number class.2) in
-    let p : Program = record { leaves = leaves; scripts = all; jobs = jobs; plan = threads.0; workers = 0; output = Line number } in
+    let jobs = jobs_of leaves all (class.0 ∷ []) in
+    let threads = plan-made number leaves jobs.sites (jobs-made leaves all class.0 number class.2) in
+    let p : Program = program_of (Line number) 0 leaves all jobs threads.0 in
     let Q : Input → Type 0 = λ i. i ≡ accepted (program p) in (
       p,
       file-read Q leaves_limit (codes "leaves") manifest_word manifest generated_manifest leaves _ manifest_made.1 manifest_short
           (file-read Q leaves_limit (codes "scripts") script_word scripts generated_scripts all _ scripts_made.1 scripts_short
           (class-file-read Q most_sites (codes "class") (class_file number) class.0 _ class.1 (class-short number)
-          (file-read Q plan_limit (codes "plan") plan_word (λ bytes. plan bytes leaves jobs) (generated_plan number) threads.0 _ threads.1
+          (file-read Q plan_limit (codes "plan") plan_word (λ bytes. plan bytes leaves jobs.sites) (generated_plan number) threads.0 _ threads.1
           (plan-short number) refl))),
     )
 

@@ -1,5 +1,5 @@
 -- The inputs of a run, read one after the other.
-use Rattle.std.proofs.Common.{◌≡◌, refl, sym, ap, subst, inl, inr, ℕ, List, Result}
+use Rattle.std.proofs.Common.{◌≡◌, refl, sym, subst, inl, inr, ℕ, List, Result}
 use Rattle.mh_base.specs.declared.lines.LineFault.{LineFault}
 use Rattle.mh_outside.specs.Causes.{AreSame}
 use Rattle.mh_outside.specs.Contents.{Contents}
@@ -8,7 +8,7 @@ use Rattle.mh_leaves.specs.Manifest.{manifest, kind_word as manifest_word}
 use Rattle.mh_script.specs.declared.script.Script.{Script}
 use Rattle.mh_script.specs.Kinds.{kind_word as script_word}
 use Rattle.mh_script.specs.Scripts.{scripts}
-use Rattle.mh_jobs.specs.declared.job.Job.{Job}
+use Rattle.mh_jobs.specs.declared.run_jobs.RunJobs.{RunJobs}
 use Rattle.mh_jobs.specs.Given.{AreJobs}
 use Rattle.mh_jobs.specs.RunJobs.{jobs_of}
 use Rattle.mh_jobs.proofs.OfClasses.{are_jobs}
@@ -19,8 +19,10 @@ use Rattle.mh_main.specs.declared.program.Output.{Output}
 use Rattle.mh_main.specs.declared.program.Program.{Program}
 use Rattle.mh_main.specs.declared.stop.Stop.{Stop}
 use Rattle.mh_words.specs.Words.{Named}
+use Rattle.mh_runtime.specs.Input.{AreConstantsOf}
 use Rattle.mh_runtime.specs.Passes.{most_sites}
-use Rattle.mh_main.specs.Input.{HasMeaning, IfAccepted, Input, leaves_limit, classes_input, named_input, plan_input, plan_limit, program, unseen}
+use Rattle.mh_runtime.proofs.constants.ClassConstants.{are-constants}
+use Rattle.mh_main.specs.Input.{HasMeaning, IfAccepted, Input, leaves_limit, classes_input, given_with, named_input, plan_input, plan_limit, program, unseen}
 use Rattle.mh_main.specs.Classes.{HasJobs}
 use Rattle.mh_main.specs.Stops.{IsStopAmong, IsStopOf, ReachesClass, ReachesInput, Refuses, StopsClasses, StopsText, TextsMean}
 use Rattle.mh_main.proofs.ReadOn.{classes-read, refuses-unseen, text-read, text-stopped}
@@ -30,23 +32,22 @@ use Rattle.mh_main.proofs.Reaching.{stops-at, stops-later}
 texts-read : (Q : Input → Type 0) (output : Output) (names : Named) (files : List ℕ → Contents) (leaves : LeafTable) (all : List Script) → Q unseen →
     TextsMean names files leaves all →
     Q (classes_input most_sites names.classes files (λ classes.
-    plan_input output names.workers (record { leaves = leaves; scripts = all; jobs = (jobs_of leaves all classes).sites }) names.plan files)) →
+    plan_input output names.workers (given_with leaves all (jobs_of leaves all classes)) names.plan files)) →
     Q (named_input output names files)
 texts-read Q output names files leaves all free mean h =
     text-read Q leaves_limit names.leaves manifest_word manifest (files names.leaves) leaves _ free mean.0
     (text-read Q leaves_limit names.scripts script_word scripts (files names.scripts) all _ free mean.1 h)
 
 -- likewise after the class files
-given-read : (Q : Input → Type 0) (output : Output) (names : Named) (files : List ℕ → Contents) (leaves : LeafTable) (all : List Script) (jobs : List Job) →
+given-read : (Q : Input → Type 0) (output : Output) (names : Named) (files : List ℕ → Contents) (leaves : LeafTable) (all : List Script) (jobs : RunJobs) →
     Q unseen →
     TextsMean names files leaves all → HasJobs leaves all names.classes files jobs →
-    Q (plan_input output names.workers (record { leaves = leaves; scripts = all; jobs = jobs }) names.plan files) → Q (named_input output names files)
+    Q (plan_input output names.workers (given_with leaves all jobs) names.plan files) → Q (named_input output names files)
 given-read Q output names files leaves all jobs free mean has h =
     texts-read Q output names files leaves all free mean
     (classes-read Q most_sites names.classes files has.0
-    (λ classes. plan_input output names.workers (record { leaves = leaves; scripts = all; jobs = (jobs_of leaves all classes).sites }) names.plan files)
-    free has.1
-    (subst (λ (js : List Job). Q (plan_input output names.workers (record { leaves = leaves; scripts = all; jobs = js }) names.plan files)) has.2 h))
+    (λ classes. plan_input output names.workers (given_with leaves all (jobs_of leaves all classes)) names.plan files) free has.1
+    (subst (λ (js : RunJobs). Q (plan_input output names.workers (given_with leaves all js) names.plan files)) has.2 h))
 
 -- the scripts that were read after the manifest
 pub texts-mean : (names : Named) (files files' : List ℕ → Contents) (leaves : LeafTable) (all : List Script) → ((n : List ℕ) → files' n ≡ files n) →
@@ -55,29 +56,46 @@ pub texts-mean : (names : Named) (files files' : List ℕ → Contents) (leaves 
 texts-mean names files files' leaves all contents one other = (one, subst (λ t. HasMeaning leaves_limit scripts t all) (contents names.scripts) other)
 
 -- the jobs that were made after that
-pub has-jobs : (names : List (List ℕ)) (files files' : List ℕ → Contents) (leaves : LeafTable) (all : List Script) (jobs : List Job) →
+pub has-jobs : (names : List (List ℕ)) (files files' : List ℕ → Contents) (leaves : LeafTable) (all : List Script) (jobs : RunJobs) →
     ((n : List ℕ) → files' n ≡ files n) → HasJobs leaves all names files' jobs → HasJobs leaves all names files jobs
 has-jobs names files files' leaves all jobs contents has =
     let e : files' ≡ files = λ i n. contents n i in subst (λ (f : List ℕ → Contents). HasJobs leaves all names f jobs) e has
 
 -- ---- where all were read
 
+-- the program of what was read
+abbrev pub program_of : Output → ℕ → LeafTable → List Script → RunJobs → List (List Call) → Program
+program_of output workers leaves all jobs threads = record {
+  leaves = leaves;
+  scripts = all;
+  jobs = jobs.sites;
+  constants = jobs.constants;
+  plan = threads;
+  workers = workers;
+  output = output;
+}
+
 -- a program that was read is what the inputs say
-pub program-read : (names : Named) (files files' : List ℕ → Contents) (p : Program) → names.workers ≡ p.workers → ((n : List ℕ) → files' n ≡ files n) →
-    TextsMean names files p.leaves p.scripts → HasJobs p.leaves p.scripts names.classes files p.jobs →
-    HasMeaning plan_limit (λ bytes. plan bytes p.leaves p.jobs) (files' names.plan) p.plan → IfAccepted (named_input p.output names files) (λ a. a ≡ program p)
-program-read names files files' p same contents mean has is =
-    let P : Input → Type 0 = λ i. IfAccepted i (λ a. a ≡ program p) in
-    given-read P p.output names files p.leaves p.scripts p.jobs tt mean has
-    (text-read P plan_limit names.plan plan_word (λ bytes. plan bytes p.leaves p.jobs) (files names.plan) p.plan _ tt
-    (subst (λ t. HasMeaning plan_limit (λ bytes. plan bytes p.leaves p.jobs) t p.plan) (contents names.plan) is)
-    (ap (λ n. program (record { leaves = p.leaves; scripts = p.scripts; jobs = p.jobs; plan = p.plan; workers = n; output = p.output })) same))
+pub program-read : (output : Output) (names : Named) (files files' : List ℕ → Contents) (leaves : LeafTable) (all : List Script) (jobs : RunJobs)
+    (threads : List (List Call)) → ((n : List ℕ) → files' n ≡ files n) → TextsMean names files leaves all → HasJobs leaves all names.classes files jobs →
+    HasMeaning plan_limit (λ bytes. plan bytes leaves jobs.sites) (files' names.plan) threads →
+    IfAccepted (named_input output names files) (λ a. a ≡ program (program_of output names.workers leaves all jobs threads))
+program-read output names files files' leaves all jobs threads contents mean has is =
+    let P : Input → Type 0 = λ i. IfAccepted i (λ a. a ≡ program (program_of output names.workers leaves all jobs threads)) in
+    given-read P output names files leaves all jobs tt mean has
+    (text-read P plan_limit names.plan plan_word (λ bytes. plan bytes leaves jobs.sites) (files names.plan) threads _ tt
+    (subst (λ t. HasMeaning plan_limit (λ bytes. plan bytes leaves jobs.sites) t threads) (contents names.plan) is) refl)
 
 -- its jobs are those of call sites of classes
-pub jobs-are : (leaves : LeafTable) (all : List Script) (names : List (List ℕ)) (files : List ℕ → Contents) (jobs : List Job) →
-    HasJobs leaves all names files jobs → AreJobs (record { leaves = leaves; scripts = all; jobs = jobs })
+pub jobs-are : (leaves : LeafTable) (all : List Script) (names : List (List ℕ)) (files : List ℕ → Contents) (jobs : RunJobs) →
+    HasJobs leaves all names files jobs → AreJobs (given_with leaves all jobs)
 jobs-are leaves all names files jobs has =
-    subst (λ (js : List Job). AreJobs (record { leaves = leaves; scripts = all; jobs = js })) (sym has.2) (are_jobs leaves all has.0)
+    subst (λ (js : RunJobs). AreJobs (given_with leaves all js)) (sym has.2) (are_jobs leaves all has.0)
+
+-- its dynamic constants can be resolved
+pub constants-are : (leaves : LeafTable) (all : List Script) (names : List (List ℕ)) (files : List ℕ → Contents) (jobs : RunJobs) →
+    HasJobs leaves all names files jobs → AreConstantsOf (given_with leaves all jobs)
+constants-are leaves all names files jobs has = are-constants leaves all has.0 has.3 jobs has.2
 
 -- ---- where a class file stops the reading
 
@@ -100,7 +118,7 @@ classes-stop output names files files' leaves all stop contents mean stops =
 
 -- ---- where the plan stops the reading
 
-pub plan-among : (names : Named) (files : List ℕ → Contents) (before before' now : List ℕ → ℕ) (leaves : LeafTable) (all : List Script) (jobs : List Job)
+pub plan-among : (names : Named) (files : List ℕ → Contents) (before before' now : List ℕ → ℕ) (leaves : LeafTable) (all : List Script) (jobs : RunJobs)
     (stop : Stop) → AreSame before before' → TextsMean names files leaves all → HasJobs leaves all names.classes files jobs →
     IsStopOf names.plan before' now stop → IsStopAmong (ReachesInput names files) before now stop
 plan-among names files before before' now leaves all jobs stop same mean has stops =
@@ -108,11 +126,11 @@ plan-among names files before before' now leaves all jobs stop same mean has sto
     (stops-at (ReachesInput names files) names.plan before' now stop (inr (inr (inr (leaves, all, has.0, refl, mean, has.1)))) stops)
 
 pub plan-stop : (output : Output) (names : Named) (files files' : List ℕ → Contents) (before now : List ℕ → ℕ) (leaves : LeafTable) (all : List Script)
-    (jobs : List Job) (stop : Stop) → ((n : List ℕ) → files' n ≡ files n) → TextsMean names files leaves all → HasJobs leaves all names.classes files jobs →
-    IsStopOf names.plan before now stop → StopsText plan_limit plan_word (λ bytes. plan bytes leaves jobs) (files' names.plan) stop →
+    (jobs : RunJobs) (stop : Stop) → ((n : List ℕ) → files' n ≡ files n) → TextsMean names files leaves all → HasJobs leaves all names.classes files jobs →
+    IsStopOf names.plan before now stop → StopsText plan_limit plan_word (λ bytes. plan bytes leaves jobs.sites) (files' names.plan) stop →
     Refuses (named_input output names files) stop
 plan-stop output names files files' before now leaves all jobs stop contents mean has of stops =
-    let Meaning : List ℕ → Result (List (List Call)) (LineFault PlanKind) = λ bytes. plan bytes leaves jobs in
+    let Meaning : List ℕ → Result (List (List Call)) (LineFault PlanKind) = λ bytes. plan bytes leaves jobs.sites in
     given-read (λ i. Refuses i stop) output names files leaves all jobs (refuses-unseen stop) mean has
     (text-stopped plan_limit names.plan plan_word Meaning (files names.plan) _ before now stop of
     (subst (λ t. StopsText plan_limit plan_word Meaning t stop) (contents names.plan) stops))

@@ -1,12 +1,11 @@
 -- What is made of class files that are read one after the other.
-use Rattle.std.specs.Prelude.{◌≡◌, ℕ, ◌+◌, List, ◌++◌, fold, length}
+use Rattle.std.specs.Prelude.{◌≡◌, ℕ, ◌+◌, List, ◌++◌, All, fold, length}
 use Rattle.mh_outside.specs.Contents.{Contents}
 use Rattle.mh_leaf.specs.LeafTable.{LeafTable}
-use Rattle.mh_classfile.specs.Class.{Class}
+use Rattle.mh_classfile.specs.Class.{Class, HasDynamics}
 use Rattle.mh_classfile.specs.File.{class_or_fault}
 use Rattle.mh_listing.specs.Listing.{lines_from, listing_from}
 use Rattle.mh_script.specs.declared.script.Script.{Script}
-use Rattle.mh_jobs.specs.declared.job.Job.{Job}
 use Rattle.mh_jobs.specs.declared.run_jobs.RunJobs.{RunJobs}
 use Rattle.mh_jobs.specs.RunJobs.{jobs_of, with_class}
 use Rattle.mh_runtime.specs.Passes.{most_sites}
@@ -23,17 +22,17 @@ abbrev pub ListsClasses : ℕ → List (List ℕ) → (List ℕ → Contents) �
 ListsClasses room names files first old new =
     (classes : List Class) × AreClassesOf room names files classes × (new ≡ old ++ listing_from first classes)
 
--- if contracts see the file, it is a class file, and its jobs stand after the earlier jobs
+-- if contracts see the file, it is a class file, and its jobs stand after the earlier jobs; what its bootstrap methods are given are Dynamic entries of its own
 abbrev pub MakesJobs : LeafTable → List Script → ℕ → Contents → RunJobs → RunJobs → Type 0
 MakesJobs leaves scripts room contents before all =
-    (c : Class) × HasMeaning class_limit (class_or_fault room) contents c × (all ≡ with_class leaves scripts before c)
+    (c : Class) × HasMeaning class_limit (class_or_fault room) contents c × (all ≡ with_class leaves scripts before c) × HasDynamics c
 
 -- the files that contracts see are class files, and their jobs stand after the earlier jobs
 abbrev pub MakesAllJobs : LeafTable → List Script → ℕ → List (List ℕ) → (List ℕ → Contents) → RunJobs → RunJobs → Type 0
 MakesAllJobs leaves scripts room names files before all =
-    (classes : List Class) × AreClassesOf room names files classes × (all ≡ fold (with_class leaves scripts) before classes)
+    (classes : List Class) × AreClassesOf room names files classes × (all ≡ fold (with_class leaves scripts) before classes) × All HasDynamics classes
 
--- the jobs are those of the call sites of the class files that contracts see
-abbrev pub HasJobs : LeafTable → List Script → List (List ℕ) → (List ℕ → Contents) → List Job → Type 0
+-- the jobs are those of the call sites and of the dynamic constants of the class files that contracts see
+abbrev pub HasJobs : LeafTable → List Script → List (List ℕ) → (List ℕ → Contents) → RunJobs → Type 0
 HasJobs leaves scripts names files jobs =
-    (classes : List Class) × AreClassesOf most_sites names files classes × (jobs ≡ (jobs_of leaves scripts classes).sites)
+    (classes : List Class) × AreClassesOf most_sites names files classes × (jobs ≡ jobs_of leaves scripts classes) × All HasDynamics classes

@@ -11,11 +11,11 @@ use Rattle.mh_report.specs.Prelinked.{draws_by, types_by}
 use Rattle.mh_report.specs.Results.{Serials, results_of, results_said, keys_said}
 use Rattle.mh_report.specs.Types.{OverfillBucket}
 use Rattle.mh_runtime.specs.Keys.{plan_keys}
-use Rattle.mh_runtime.specs.Report.{LedgerBy}
+use Rattle.mh_runtime.specs.Report.{ConstLedgerBy, LedgerBy}
 use Rattle.mh_main.specs.declared.answer.TopAnswer.{TopAnswer}
 use Rattle.mh_main.specs.declared.program.Program.{Program}
 use Rattle.mh_words.specs.Words.{Command, command_of, sites, generate}
-use Rattle.mh_main.specs.Program.{given_of, text}
+use Rattle.mh_main.specs.Program.{given_by, given_of, text}
 use Rattle.mh_main.specs.Input.{Accepted, program, listed, input, IfAccepted, IfRefused}
 use Rattle.mh_main.specs.Stops.{IsReachedInput, unread_line}
 
@@ -41,22 +41,24 @@ abbrev pub IsGenerated : Option Command → Type 0
 IsGenerated (Some (generate number)) = Unit {0}
 IsGenerated _ = ⊥
 
--- no table, no attempts and no answers
+-- no tables, no attempts and no answers
 abbrev pub IsEmptyAnswer : TopAnswer → Type 0
-IsEmptyAnswer answer = (answer.table ≡ []) × (answer.attempts ≡ []) × (answer.threads ≡ [])
+IsEmptyAnswer answer =
+    (answer.table ≡ []) × (answer.attempts ≡ []) × (answer.threads ≡ []) × (answer.constants ≡ []) × (answer.constant_attempts ≡ [])
 
--- the answers of a program's calls under a table: the result of each, and how many keys the form has that it ran
-abbrev pub AreAnswersOf : Program → Serials → List (List Answer) → Type 0
-AreAnswersOf p table threads =
-    (results_said threads ≡ results_of (given_of p) table p.plan) × (keys_said threads ≡ plan_keys (given_of p) table p.plan)
+-- the answers of a program's calls under a table of its sites and one of its constants: the result of each, and how many keys the form has that it ran
+abbrev pub AreAnswersOf : Program → Serials → Serials → List (List Answer) → Type 0
+AreAnswersOf p table constants threads =
+    (results_said threads ≡ results_of (given_by p constants) table p.plan) × (keys_said threads ≡ plan_keys (given_by p constants) table p.plan)
 
--- The report on a program. The answer's table and attempts are a ledger of the program, and its answers are those of the calls under the table. The bytes are
+-- The report on a program. The answer's tables and attempts are ledgers of the program, and its answers are those of the calls under the tables. The bytes are
 -- the text of all this.
 abbrev pub IsReportOf : Program → TopAnswer → List ℕ → Type 0
 IsReportOf p answer bytes =
     LedgerBy p.workers p.plan (length p.jobs) answer.table answer.attempts
-    × AreAnswersOf p answer.table answer.threads
-    × (bytes ≡ text p answer.table answer.attempts)
+    × ConstLedgerBy (given_of p) p.workers p.plan answer.attempts answer.constants answer.constant_attempts
+    × AreAnswersOf p answer.table answer.constants answer.threads
+    × (bytes ≡ text p answer.table answer.constants answer.attempts)
 
 -- the listing of classes, with no table, no attempts and no answers
 abbrev pub IsListingOf : List Class → TopAnswer → List ℕ → Type 0
@@ -85,7 +87,7 @@ IsDueOf p answer bytes = IsReportOf p answer bytes ⊎ (IsEmptyAnswer answer × 
 
 -- the answers of a program's calls; classes are not run
 abbrev pub AreAnswers : Accepted → TopAnswer → Type 0
-AreAnswers (program p) answer = AreAnswersOf p answer.table answer.threads
+AreAnswers (program p) answer = AreAnswersOf p answer.table answer.constants answer.threads
 AreAnswers (listed classes) answer = answer.threads ≡ []
 
 -- the answers of the calls of the program that the words and the files give

@@ -7,11 +7,14 @@ use Rattle.mh_class_bytes.specs.Format.{Checked}
 use Rattle.mh_class_pool.specs.declared.fault.ClassKind.{ClassKind}
 use Rattle.mh_classfile.specs.Class.{Class}
 use Rattle.mh_classfile.specs.File.{class_or_fault}
+use Rattle.mh_leaf.specs.LeafTable.{LeafTable}
 use Rattle.mh_leaves.specs.Manifest.{manifest, kind_word as manifest_word}
 use Rattle.mh_handle.specs.Form.{most_forms}
+use Rattle.mh_script.specs.declared.script.Script.{Script}
 use Rattle.mh_script.specs.Kinds.{kind_word as script_word}
 use Rattle.mh_script.specs.Scripts.{scripts}
-use Rattle.mh_jobs.specs.Given.{Given}
+use Rattle.mh_jobs.specs.declared.run_jobs.RunJobs.{RunJobs}
+use Rattle.mh_jobs.specs.Given.{Given, nothing_known}
 use Rattle.mh_jobs.specs.RunJobs.{jobs_of}
 use Rattle.mh_plan.specs.Plan.{plan, kind_word as plan_word}
 use Rattle.mh_report.specs.Prelinked.{draws_by, types_by}
@@ -95,10 +98,16 @@ plan_input output workers given name files =
       leaves = given.leaves;
       scripts = given.scripts;
       jobs = given.jobs;
+      constants = given.constants;
       plan = threads;
       workers = workers;
       output = output;
     }))))
+
+-- what a run is given with these jobs
+abbrev pub given_with : LeafTable → List Script → RunJobs → Given
+given_with leaves scripts jobs =
+    record { leaves = leaves; scripts = scripts; jobs = jobs.sites; constants = jobs.constants; values = nothing_known }
 
 -- the program of the files with these names, taken in the order manifest, scripts, class files, plan
 abbrev pub named_input : Output → Named → (List ℕ → Contents) → Input
@@ -106,7 +115,7 @@ named_input output names files =
     within names.leaves leaves_limit (files names.leaves) (λ leaves_bytes. meant names.leaves manifest_word (manifest leaves_bytes) (λ leaves.
     within names.scripts leaves_limit (files names.scripts) (λ scripts_bytes. meant names.scripts script_word (scripts scripts_bytes) (λ scripts.
     classes_input most_sites names.classes files (λ classes.
-    plan_input output names.workers (record { leaves = leaves; scripts = scripts; jobs = (jobs_of leaves scripts classes).sites }) names.plan files)))))
+    plan_input output names.workers (given_with leaves scripts (jobs_of leaves scripts classes)) names.plan files)))))
 
 -- these classes are accepted as ones to list
 abbrev pub to_list : List Class → Input

@@ -1,4 +1,5 @@
 ghost use Rattle.std.specs.Prelude.{◌≡◌, ◌≤◌, Ok, IfOk, IfErr, length};
+ghost use Rattle.mh_classfile.specs.Class.{HasDynamics};
 ghost use Rattle.mh_classfile.specs.File.{class_or_fault};
 ghost use Rattle.mh_main.specs.Kinds.{class_word};
 ghost use Rattle.mh_main.specs.Stops.{StopsBytes};
@@ -42,6 +43,7 @@ pub fn class_of<'a, 'b>(
     ensures stop { IfErr result (λ stop. StopsBytes name.now room bytes.now stop) }
     ensures ok { IfOk result (λ view. class_or_fault room bytes.now ≡ Ok view) }
     ensures few { IfOk result (λ view. length view.sites ≤ room) }
+    ensures dynamics { IfOk result (λ view. HasDynamics view) }
 {
     match read(alloc, bytes, room) {
         Ok(view) => Ok(view),

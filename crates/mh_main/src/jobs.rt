@@ -12,7 +12,7 @@ ghost use Rattle.mh_main.specs.Stops.{IsStopAmong, IsStopOf, ReachesClass, Stops
 use crate::classes::{CLASS_LIMIT, class_of};
 use crate::reading::read_input;
 use crate::stop::Stop;
-use mh_jobs::{Jobs, RunJobs, push_class};
+use mh_jobs::{RunJobs, push_class};
 use mh_leaves::Leaves;
 use mh_outside::Inputs;
 use mh_runtime::MOST_SITES;
@@ -42,7 +42,8 @@ fn read_class<'a, I: Inputs>(
     ensures stop { IfErr result
         (λ stop. IsStopOf name.now (I.faults inputs.old) (I.faults inputs.new) stop) }
     ensures refuses { IfErr result
-        (λ stop. StopsClass (most_sites - length jobs.sites) (I.contents inputs.old name.now) stop) }
+        (λ stop. StopsClass (most_sites - length jobs.sites)
+        (I.contents inputs.old name.now) stop) }
     ensures ok { IfOk result
         (MakesJobs methods.now.leaves.now methods.now.scripts.now (most_sites - length jobs.sites)
         (I.contents inputs.old name.now) jobs) }
@@ -78,8 +79,8 @@ fn read_classes<'a, I: Inputs>(
         (λ stop. StopsClasses (most_sites - length jobs.sites) (said names.now)
         (I.contents inputs.old) stop) }
     ensures ok { IfOk result
-        (MakesAllJobs methods.now.leaves.now methods.now.scripts.now (most_sites - length jobs.sites)
-        (said names.now) (I.contents inputs.old) jobs) }
+        (MakesAllJobs methods.now.leaves.now methods.now.scripts.now
+        (most_sites - length jobs.sites) (said names.now) (I.contents inputs.old) jobs) }
     ensures few { IfOk result (λ all. length all.sites ≤ most_sites) }
     ensures reads { ReadsOnce (class_limit + 1) (length (said names.now))
         (I.reached inputs.old) (I.reached inputs.new)
@@ -93,14 +94,14 @@ fn read_classes<'a, I: Inputs>(
 }
 
 /// Reads class files in order, up to the first that stops it, and makes the jobs of their call
-/// sites.
+/// sites and of their dynamic constants.
 pub fn read_jobs<'a, I: Inputs>(
     alloc: Global,
     inputs: &mut I,
     names: &[&'a str],
     leaves: &Leaves,
     scripts: &Scripts,
-) -> Result<Jobs, Stop<'a>>
+) -> Result<RunJobs, Stop<'a>>
     ensures keeps { KeepsInputs (I.contents inputs.old) (I.contents inputs.new)
         (I.faults inputs.old) (I.faults inputs.new) }
     ensures no_fault { OnOk result (AreSame (I.faults inputs.old) (I.faults inputs.new)) }
@@ -111,14 +112,11 @@ pub fn read_jobs<'a, I: Inputs>(
         (λ stop. StopsClasses most_sites (said names.now) (I.contents inputs.old) stop) }
     ensures ok { IfOk result
         (HasJobs leaves.now scripts.now (said names.now) (I.contents inputs.old)) }
-    ensures few { IfOk result (λ jobs. length jobs ≤ most_sites) }
+    ensures few { IfOk result (λ jobs. length jobs.sites ≤ most_sites) }
     ensures reads { ReadsOnce (class_limit + 1) (length (said names.now))
         (I.reached inputs.old) (I.reached inputs.new)
         (I.starts inputs.old) (I.starts inputs.new) }
 {
     let methods = Methods { leaves, scripts };
-    match read_classes(alloc, inputs, names, &methods, RunJobs::new(alloc)) {
-        Ok(jobs) => Ok(jobs.sites),
-        Err(stop) => Err(stop),
-    }
+    read_classes(alloc, inputs, names, &methods, RunJobs::new(alloc))
 }

@@ -1,4 +1,4 @@
-use mh_jobs::Jobs;
+use mh_jobs::{ConstJobs, Jobs};
 use mh_leaves::Leaves;
 use mh_plan::Plan;
 use mh_script::Scripts;
@@ -19,6 +19,8 @@ pub struct Program {
     pub scripts: Scripts,
     /// The jobs of the call sites of all class files, in order.
     pub jobs: Jobs,
+    /// Those of the dynamic constants of all class files, in order.
+    pub constants: ConstJobs,
     pub plan: Plan,
     /// How many workers link all call sites before the calls; none if it is 0.
     pub workers: u32,

@@ -21,7 +21,7 @@ ghost use Rattle.mh_main.specs.Stops.{StopsText};
 use crate::jobs::read_jobs;
 use crate::stop::Stop;
 use crate::{Output, Program};
-use mh_jobs::Jobs;
+use mh_jobs::{Jobs, RunJobs};
 use mh_leaves::{Leaves, ManifestError, read_manifest};
 use mh_outside::{Inputs, ReadWhole, read_whole};
 use mh_plan::{Plan, PlanError, read_plan};
@@ -175,11 +175,13 @@ pub fn read_program<'a, I: Inputs>(
     let leaves = read_leaves(alloc, inputs, names.leaves)?;
     let scripts = read_scripts(alloc, inputs, names.scripts)?;
     let jobs = read_jobs(alloc, inputs, &names.classes, &leaves, &scripts)?;
-    let plan = read_calls(alloc, inputs, names.plan, &leaves, &jobs)?;
+    let RunJobs { sites, constants } = jobs;
+    let plan = read_calls(alloc, inputs, names.plan, &leaves, &sites)?;
     Ok(Program {
         leaves,
         scripts,
-        jobs,
+        jobs: sites,
+        constants,
         plan,
         workers: names.workers,
         output,

@@ -3,13 +3,13 @@ ghost use Rattle.mh_handle.specs.Form.{most_forms};
 ghost use Rattle.mh_plan.specs.Limits.{IsWithinLimits, calls_in};
 ghost use Rattle.mh_report.specs.Forms.{forms};
 ghost use Rattle.mh_report.specs.Prelinked.{draws_by, types_by};
-ghost use Rattle.mh_report.specs.Recorded.{recorded, serials_of, types};
+ghost use Rattle.mh_report.specs.Recorded.{recorded, row_serials, rows, serials_of, types};
 ghost use Rattle.mh_report.specs.Results.{results_said};
 ghost use Rattle.mh_report.specs.Text.{report_text};
 ghost use Rattle.mh_report.specs.Types.{Overfill};
 ghost use Rattle.mh_runtime.specs.Asking.{IfFull, IfTypesFull};
-ghost use Rattle.mh_runtime.specs.Report.{LedgerBy};
-ghost use Rattle.mh_main.specs.Program.{given_of, text, written};
+ghost use Rattle.mh_runtime.specs.Report.{ConstLedgerBy, LedgerBy};
+ghost use Rattle.mh_main.specs.Program.{given_by, given_of, text, written};
 ghost use Rattle.mh_main.specs.Runnable.{IsRunnable};
 ghost use Rattle.mh_main.specs.Status.{done};
 ghost use Rattle.mh_main.specs.Due.{AreAnswersOf};
@@ -20,7 +20,7 @@ use crate::sums::{Sums, calls_in, line, sum_of};
 use crate::{Output, Program, TopAnswer};
 use mh_base::{NoMemory, Seq};
 use mh_outside::Gate;
-use mh_report::{Attempts, Recorded, Serials, Summary, Table, report};
+use mh_report::{Attempts, ConstRow, ConstRows, Recorded, Serials, Summary, Table, report};
 use mh_runtime::{RunInput, RunReport, WorkError, run_all};
 use mh_values::Classes;
 use std::alloc::Global;
@@ -69,14 +69,19 @@ fn run<R: Threads + Wait + Sync, G: Gate + Sync>(
     requires { IsRunnable program.now }
     ensures ledger { IfOk result (λ run. LedgerBy program.now.workers program.now.plan
         (length program.now.jobs) (serials_of run.table) run.attempts) }
-    ensures answers { IfOk result
-        (λ run. AreAnswersOf program.now (serials_of run.table) run.threads) }
-    ensures table { IfOk result
-        (λ run. run.table ≡ recorded (given_of program.now) (serials_of run.table)) }
-    ensures forms { IfOk result
-        (λ run. run.forms ≡ forms (given_of program.now) program.now.plan run.attempts) }
-    ensures types { IfOk result
-        (λ run. run.types ≡ types (given_of program.now) (serials_of run.table)) }
+    ensures constants { IfOk result (λ run. ConstLedgerBy (given_of program.now)
+        program.now.workers program.now.plan run.attempts (row_serials run.constants)
+        run.constant_attempts) }
+    ensures answers { IfOk result (λ run. AreAnswersOf program.now (serials_of run.table)
+        (row_serials run.constants) run.threads) }
+    ensures rows { IfOk result (λ run. run.constants
+        ≡ rows (given_by program.now (row_serials run.constants)) (row_serials run.constants)) }
+    ensures table { IfOk result (λ run. run.table
+        ≡ recorded (given_by program.now (row_serials run.constants)) (serials_of run.table)) }
+    ensures forms { IfOk result (λ run. run.forms
+        ≡ forms (given_by program.now (row_serials run.constants)) program.now.plan run.attempts) }
+    ensures types { IfOk result (λ run. run.types
+        ≡ types (given_by program.now (row_serials run.constants)) (serials_of run.table)) }
     ensures full { IfFull result (most_forms
         < draws_by (given_of program.now) program.now.workers program.now.plan) }
     ensures no_slot { IfTypesFull result (λ bucket. Overfill bucket
@@ -86,6 +91,7 @@ fn run<R: Threads + Wait + Sync, G: Gate + Sync>(
         leaves: &program.leaves,
         scripts: &program.scripts,
         jobs: &program.jobs,
+        constants: &program.constants,
     };
     match run_all(rt, alloc, &input, &program.plan, program.workers, gate) {
         Ok(run) => Ok(run),
@@ -96,14 +102,22 @@ fn run<R: Threads + Wait + Sync, G: Gate + Sync>(
 // The report on a run.
 fn report_of(alloc: Global, classes: &Classes, run: &RunReport) -> Result<Vec<u8>, NoMemory>
     ensures { IfOk result (λ text. text.items ≡ report_text classes.now run.now.table
-        (results_said run.now.threads) (length run.now.attempts) run.now.forms run.now.types) }
+        run.now.constants (results_said run.now.threads) (length run.now.attempts) run.now.forms
+        run.now.types) }
 {
     let summary = Summary {
         attempts: count(&run.attempts)?,
         forms: run.forms,
         types: run.types,
     };
-    report(alloc, &run.threads, &run.table, summary, classes)
+    report(
+        alloc,
+        &run.threads,
+        &run.table,
+        &run.constants,
+        summary,
+        classes,
+    )
 }
 
 // The line of a run of the input that is made from a number.
@@ -133,7 +147,8 @@ fn line_of(
 fn text_of(alloc: Global, program: &Program, run: &RunReport) -> Result<Vec<u8>, NoMemory>
     requires { IsWithinLimits program.now.plan }
     ensures { IfOk result (λ text. text.items ≡ written program.now run.now.table
-        (results_said run.now.threads) (length run.now.attempts) run.now.forms run.now.types) }
+        run.now.constants (results_said run.now.threads) (length run.now.attempts) run.now.forms
+        run.now.types) }
 {
     match program.output {
         Output::Report => report_of(alloc, program.leaves.classes(), run),
@@ -141,18 +156,44 @@ fn text_of(alloc: Global, program: &Program, run: &RunReport) -> Result<Vec<u8>,
     }
 }
 
+// The serial of the attempt by which a constant is resolved.
+fn row_serial(entry: &Option<ConstRow>) -> Option<u64>
+    ensures { result ≡ option_map (λ r. r.serial) entry.now }
+{
+    match entry {
+        Some(row) => Some(row.serial),
+        None => None,
+    }
+}
+
+// For each constant the serial of the attempt by which it is resolved.
+fn row_serials(alloc: Global, rows: &ConstRows) -> Result<Serials, NoMemory>
+    ensures { IfOk result (λ serials. serials ≡ row_serials rows.now) }
+{
+    let entries = rows.as_slice();
+    let mut serials = Seq::new(alloc);
+    for entry in entries {
+        serials.push(row_serial(entry))?;
+    }
+    Ok(serials)
+}
+
 // The answer with what a run gave.
-fn answered(table: Serials, run: RunReport) -> TopAnswer
+fn answered(table: Serials, constants: Serials, run: RunReport) -> TopAnswer
     ensures status { result.status ≡ done }
     ensures threads { result.threads ≡ run.threads }
     ensures table { result.table ≡ table }
     ensures attempts { result.attempts ≡ run.attempts }
+    ensures constants { result.constants ≡ constants }
+    ensures resolving { result.constant_attempts ≡ run.constant_attempts }
 {
     TopAnswer {
         status: DONE,
         table,
         attempts: run.attempts,
         threads: run.threads,
+        constants,
+        constant_attempts: run.constant_attempts,
     }
 }
 
@@ -166,8 +207,12 @@ pub fn run_and_report<R: Threads + Wait + Sync, G: Gate + Sync>(
     requires { IsRunnable program.now }
     ensures ledger { IfOk result (λ r. LedgerBy program.now.workers program.now.plan
         (length program.now.jobs) r.0.table r.0.attempts) }
-    ensures answers { IfOk result (λ r. AreAnswersOf program.now r.0.table r.0.threads) }
-    ensures text { IfOk result (λ r. r.1.items ≡ text program.now r.0.table r.0.attempts) }
+    ensures constants { IfOk result (λ r. ConstLedgerBy (given_of program.now)
+        program.now.workers program.now.plan r.0.attempts r.0.constants r.0.constant_attempts) }
+    ensures answers { IfOk result
+        (λ r. AreAnswersOf program.now r.0.table r.0.constants r.0.threads) }
+    ensures text { IfOk result
+        (λ r. r.1.items ≡ text program.now r.0.table r.0.constants r.0.attempts) }
     ensures status { IfOk result (λ r. r.0.status ≡ done) }
     ensures full { IfFull result (most_forms
         < draws_by (given_of program.now) program.now.workers program.now.plan) }
@@ -177,5 +222,6 @@ pub fn run_and_report<R: Threads + Wait + Sync, G: Gate + Sync>(
     let run = run(rt, alloc, program, gate)?;
     let text = text_of(alloc, program, &run)?;
     let table = serials(alloc, &run.table)?;
-    Ok((answered(table, run), text))
+    let constants = row_serials(alloc, &run.constants)?;
+    Ok((answered(table, constants, run), text))
 }

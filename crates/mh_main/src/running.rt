@@ -40,6 +40,8 @@ fn nothing_ran(alloc: Global, status: u8) -> TopAnswer
         table: Seq::new(alloc),
         attempts: Seq::new(alloc),
         threads: Seq::new(alloc),
+        constants: Seq::new(alloc),
+        constant_attempts: Seq::new(alloc),
     }
 }
 
@@ -67,6 +69,8 @@ fn unwritten(answer: TopAnswer) -> TopAnswer
     ensures threads { result.threads ≡ answer.threads }
     ensures table { result.table ≡ answer.table }
     ensures attempts { result.attempts ≡ answer.attempts }
+    ensures constants { result.constants ≡ answer.constants }
+    ensures resolving { result.constant_attempts ≡ answer.constant_attempts }
 {
     TopAnswer {
         status: WRITE_FAILED,
@@ -80,6 +84,8 @@ fn answer_report<S: Sink>(sink: &mut S, answer: TopAnswer, text: &[u8]) -> TopAn
     ensures threads { result.threads ≡ answer.threads }
     ensures table { result.table ≡ answer.table }
     ensures attempts { result.attempts ≡ answer.attempts }
+    ensures constants { result.constants ≡ answer.constants }
+    ensures resolving { result.constant_attempts ≡ answer.constant_attempts }
     ensures status { result.status ≢ write_failed → result.status ≡ done }
     ensures written { result.status ≢ write_failed
         → Appends (S.taken sink.old) (S.taken sink.new) text.now }
@@ -106,7 +112,7 @@ fn run_program<R: Threads + Wait + Sync, S: Sink, G: Gate + Sync>(
     ensures report { result.status ≡ done
         → Writes (IsReportOf program.now result) (S.taken sink.old) (S.taken sink.new) }
     ensures answers { result.status ≡ done
-        → AreAnswersOf program.now result.table result.threads }
+        → AreAnswersOf program.now result.table result.constants result.threads }
     ensures full { result.status ≡ forms_full
         → Writes (IsFullOf program.now) (S.taken sink.old) (S.taken sink.new) }
     ensures types { result.status ≡ types_full

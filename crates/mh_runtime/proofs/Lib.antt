@@ -1,5 +1,6 @@
 pub mod sites
 pub mod asking
+pub mod constants
 pub mod types
 pub mod lanes
 pub mod ledger

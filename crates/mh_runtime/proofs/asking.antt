@@ -4,5 +4,6 @@ pub mod RunSteps
 pub mod LeafTypes
 pub mod SeatAsked
 pub mod AskedAnswers
+pub mod Lacking
 pub mod MadeCalls
 pub mod WorkPasses

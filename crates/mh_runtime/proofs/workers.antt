@@ -1,6 +1,7 @@
 pub mod LearntBases
 pub mod WorkerSteps
 pub mod WorkersJoined
+pub mod WorkersConstants
 pub mod TakenSites
 pub mod WorkersNeeded
 pub mod WorkerStops

@@ -105,6 +105,16 @@ RunsOnTypes given before after more old new (Err (TypesFull bucket)) = HasAskedO
 RunsOnTypes given before after more old new (Err (FormsFull drawn)) = HasAskedOn given before after more old new
 RunsOnTypes given before after more old new (Err NoMemory) = HasAskedOn given before after more old new
 
+-- ---- want of room
+
+-- what is known of calls that have stopped for want of a number or of a slot: the last number drawn is no form's, or a type that the seat was asked for has no
+-- slot
+abbrev pub LacksRoom : {A : Type 0} → PassView → SeatView → Result A WorkError → Type 0
+LacksRoom forms types (Ok a) = Unit {0}
+LacksRoom forms types (Err (FormsFull drawn)) = IsOver drawn forms
+LacksRoom forms types (Err (TypesFull bucket)) = HasNoSlot bucket types
+LacksRoom forms types (Err NoMemory) = Unit {0}
+
 -- P holds of the bucket in which no slot was left for a type; any other result says nothing
 abbrev pub IfTypesFull : {A : Type 0} → Result A WorkError → (ℕ → Type 0) → Type 0
 IfTypesFull (Err (TypesFull bucket)) P = P bucket

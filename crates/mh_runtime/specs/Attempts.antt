@@ -1,6 +1,14 @@
 -- The attempts of one thread: the first call that names a site attempts it, unless the pass has learnt a linkage of that site by then.
-use Rattle.std.specs.Prelude.{◌≡◌, ◌≢◌, ℕ, ◌+◌, ◌<◌, ◌≤◌, ◌==◌, List, [], ◌++◌, length, map, filter, All, AllPairs, Contains, IsSome, Some}
-use Rattle.std.specs.List.{list_any}
+use Rattle.std.specs.Prelude.{◌≡◌, ◌≢◌, ℕ, ◌+◌, ◌<◌, ◌≤◌, ◌==◌, List, [], ◌++◌, length, map, filter, All, AllPairs, Contains, IsSome, Some, slice_get}
+use Rattle.std.specs.List.{flat_map, list_any}
+use Rattle.std.specs.Option.{option_map_or}
+use Rattle.mh_cells.specs.Values.{Keeps}
+use Rattle.mh_condy.specs.Nodes.{found_in, unresolved}
+use Rattle.mh_condy.specs.Resolving.{GoesOnResolving}
+use Rattle.mh_condy.specs.Trails.{GoesBeside, trail_of}
+use Rattle.mh_jobs.specs.Given.{Found, Given}
+use Rattle.mh_link.specs.Asking.{asked_at}
+use Rattle.mh_link.specs.Named.{run_of}
 use Rattle.mh_plan.specs.Naming.{first_places}
 use Rattle.mh_report.specs.declared.attempt.Attempt.{Attempt}
 use Rattle.mh_report.specs.Results.{Serials, serial_at}
@@ -43,3 +51,30 @@ pub record GoesOnLinking (serials : ℕ) (old new : LinkPass) : Type 0 where
   pub linked : HasSerials old.linked new.linked
   pub room : old.seat.room ≤ new.seat.room + serials
   pub whole : new.seat.room + length new.seat.numbers ≡ old.seat.room + length old.seat.numbers
+  pub linkages : Keeps old.linkages new.linkages
+  -- constants were resolved, each with a serial that was drawn for it
+  pub constants : GoesOnResolving old.constants new.constants
+
+-- ---- dynamic constants
+
+-- the constants that the calls of attempts look at themselves, where constants are what they are known to be
+abbrev pub looked_at : Given → Found → List Attempt → List ℕ
+looked_at given known attempts = flat_map (λ a. option_map_or (asked_at known) (slice_get given.jobs a.site) []) attempts
+
+-- the attempts that came have gone through the constants that their calls look at, one after the other
+pub record AsksMore (given : Given) (old new : LinkPass) : Type 0 where
+  pub more : List Attempt
+  pub are : new.attempts ≡ old.attempts ++ more
+  pub goes : GoesBeside (run_of given) (looked_at given (found_in new.constants.known) more) (trail_of old.constants) (trail_of new.constants)
+
+-- at most as many serials of constants were drawn as there were constants that the pass had not learnt
+abbrev pub DrawsOnce : LinkPass → LinkPass → Type 0
+DrawsOnce old new = old.constants.seat.room ≤ unresolved old.constants.known + new.constants.seat.room
+
+-- constants were resolved only where a site was attempted
+abbrev pub ResolvesForAttempts : LinkPass → LinkPass → Type 0
+ResolvesForAttempts old new = new.attempts ≡ old.attempts → new.constants ≡ old.constants
+
+-- there is room for as many serials of constants as there are constants that the pass has not learnt
+abbrev pub HasRoomForConstants : LinkPass → Type 0
+HasRoomForConstants links = unresolved links.constants.known ≤ links.constants.seat.room

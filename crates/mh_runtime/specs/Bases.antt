@@ -1,5 +1,6 @@
 -- What the passes of lanes are split off.
 use Rattle.std.specs.Prelude.{[]}
+use Rattle.mh_condy.specs.Passes as consts
 use Rattle.mh_handle.specs.Passes.{PassView, pass_at}
 use Rattle.mh_handle.specs.Seats as forms_seat
 use Rattle.mh_intern.specs.Views as types_seat
@@ -36,6 +37,8 @@ no_base = record {
     attempts = [];
     recorded = [];
     seat = serials.new_seat no_counter 0;
+    linkages = [];
+    constants = consts.pass_at (record { cells = []; serials = no_counter }) 0 0 (serials.new_seat no_counter 0);
   };
   forms = pass_at (record { chains = []; tickets = no_counter }) (forms_seat.new_seat (record { chains = []; tickets = no_counter }) 0);
   types = types_seat.new_seat (record { claims = no_counter; holders = no_counter }) 0;

@@ -15,6 +15,7 @@ use Rattle.mh_report.specs.declared.attempt.Attempt.{Attempt}
 use Rattle.mh_plan.specs.declared.call.Call.{Call}
 use Rattle.mh_report.specs.Forms.{attempt_edits, plan_edits, thread_edits}
 use Rattle.mh_plan.specs.Naming.{sites_named}
+use Rattle.mh_runtime.specs.declared.pass.Pass.{Pass}
 use Rattle.mh_runtime.specs.Asking.{run_edits}
 use Rattle.mh_runtime.specs.Attempts.{AreLinked, IsThreadRun}
 use Rattle.mh_runtime.specs.Passes.{HasSerials, LinkPass}
@@ -23,6 +24,10 @@ use Rattle.mh_runtime.specs.Passes.{HasSerials, LinkPass}
 pub record ThreadPasses : Type 0 where
   pub links : LinkPass
   pub forms : PassView
+
+-- those of a pass
+abbrev pub passes_in : {J : Type 0} → Pass J → ThreadPasses
+passes_in pass = record { links = pass.links; forms = pass.forms }
 
 -- This thread has made these calls: its attempts are of the sites that they name. It follows from `HasRun` of `Lanes`.
 pub record IsUsedBy (given : Given) (thread : ℕ) (calls : List Call) (passes : ThreadPasses) : Type 0 where

@@ -1,5 +1,5 @@
 -- How a run is shared out to lanes, whose passes are split off one, the base; and what is known of the passes that are joined after it.
-use Rattle.std.specs.Prelude.{◌≡◌, ℕ, ◌+◌, ◌*◌, ◌<◌, List, [], ◌∷◌, ◌++◌, length, map, take, Option, None, Some, slice_get}
+use Rattle.std.specs.Prelude.{◌≡◌, ℕ, ◌+◌, ◌*◌, ◌<◌, ◌≤◌, List, [], ◌∷◌, ◌++◌, length, map, take, Option, None, Some, slice_get}
 use Rattle.std.specs.List.{All, flat_map}
 use Rattle.mh_values.specs.declared.types.MethodTy.{MethodTy}
 use Rattle.mh_edit.specs.declared.key.Key.{Key}
@@ -29,38 +29,49 @@ use Rattle.mh_runtime.specs.declared.pass.Pass.{Pass}
 use Rattle.mh_runtime.specs.declared.stops.Stop.{Stop}
 use Rattle.mh_runtime.specs.Asking.{WasAsked, run_edits, run_types}
 use Rattle.mh_runtime.specs.Bases.{Base, base_of}
-use Rattle.mh_runtime.specs.Joined.{AreDone, AreFormsJoined, AreJoined, AreUsed, HaveDrawnFew, edits_of}
+use Rattle.mh_runtime.specs.Joined.{AreDone, AreFormsJoined, AreJoined, AreUsed, HaveDrawnFew, ThreadPasses, edits_of}
 use Rattle.mh_runtime.specs.Keys.{plan_keys}
-use Rattle.mh_runtime.specs.Lanes.{AreUnlearnt, IsReadyLane, passes_of}
+use Rattle.mh_runtime.specs.Lanes.{AreUnlearnt, HasResolved, IsReadyLane, passes_of}
 use Rattle.mh_runtime.specs.Linkers.{JoinsPass}
 use Rattle.mh_runtime.specs.Linking.{HoldsInstead}
-use Rattle.mh_runtime.specs.Passes.{HasSerials, pass_at, split_room, with_seat}
+use Rattle.mh_cells.specs.Values.{Keeps}
+use Rattle.mh_condy.specs.Nodes as consts_known
+use Rattle.mh_condy.specs.Passes as consts
+use Rattle.mh_runtime.specs.Attempts.{AsksMore}
+use Rattle.mh_runtime.specs.Passes.{HasSerials, pass_at, split_pass, split_room, with_seats}
+use Rattle.mh_runtime.specs.Values.{At}
+use Rattle.mh_runtime.specs.Workers.{first_asked}
 use Rattle.mh_runtime.specs.RunStops.{HaveMade}
 use Rattle.mh_runtime.specs.Stops.{answers_in, end_in, stop_after, stop_at, stop_of}
 
 -- ---- before the run
 
 -- a pass with which nothing was done, and whose seats have all the room that there is
-pub record IsUnused {J : Type 0} (given : Given) (linker : Linker J) (pass : Pass J) : Type 0 where
-  pub links : pass.links ≡ pass_at linker.sites 0 (length given.jobs) (serials.new_seat linker.sites.serials limit)
+pub record IsUnused {J : Type 0} (given : Given) (linker : Linker J) (table : consts.TableView) (pass : Pass J) : Type 0 where
+  pub links : pass.links ≡ pass_at linker.sites 0 (length given.jobs) (serials.new_seat linker.sites.serials limit) (first_asked given table)
   pub forms : pass.forms ≡ forms_at linker.forms.now (forms_seat.new_seat linker.forms.now limit)
   pub types : pass.types ≡ types_seat.new_seat linker.types.now limit
 
 -- the seats of a pass have all the room that there is
 pub record HasAllRoom {J : Type 0} (pass : Pass J) : Type 0 where
   pub serials : pass.links.seat.room ≡ limit
+  pub constants : pass.links.constants.seat.room ≡ limit
   pub forms : pass.forms.seat.room ≡ limit
   pub types : pass.types.room ≡ limit
 
 -- the base has more room than this many splits give away
 pub record HasRoomFor (splits : ℕ) (base : Base) : Type 0 where
   pub serials : split_room * splits < base.links.seat.room
+  pub constants : split_room * splits < base.links.constants.seat.room
   pub forms : split_room * splits < base.forms.seat.room
   pub holds : split_room * splits < base.types.room
+  -- each split has room for all constants
+  pub few_constants : length base.links.constants.known ≤ split_room
 
 -- the base after this many passes were split off: it has less room
 pub record IsLeft {J : Type 0} (splits : ℕ) (base pass : Pass J) : Type 0 where
-  pub links : pass.links ≡ with_seat (serials.with_less_room (split_room * splits) base.links.seat) base.links
+  pub links : pass.links ≡ with_seats (serials.with_less_room (split_room * splits) base.links.seat)
+      (serials.with_less_room (split_room * splits) base.links.constants.seat) base.links
   pub forms : pass.forms ≡ form_joins.with_seat (forms_seat.with_less_room (split_room * splits) base.forms.seat) base.forms
   pub types : pass.types ≡ types_seat.with_less_room (split_room * splits) base.types
 
@@ -115,14 +126,22 @@ StopsFor joined (FormsFull drawn) = IsOver drawn joined.pass.forms
 StopsFor joined (TypesFull bucket) = HasNoSlot bucket joined.pass.types × Knows joined.pass.types
 StopsFor joined NoMemory = Unit {0}
 
--- what is known by whether a lane has stopped
+-- what is known by whether a lane has stopped, where constants have values that the joined pass has seen
 abbrev pub EndsSoFar : {J : Type 0} → Given → PassView → List (Lane J) → Joined J → Option Stop → Type 0
 EndsSoFar given base lanes joined None =
-    AreDone (calls_of lanes) (map passes_of lanes)
-    × ((before : List (List Key)) → HasAsked before base → HasAsked (before ++ lanes_edits given lanes) joined.pass.forms)
+    ((before : List (List Key)) → HasAsked before base → HasAsked (before ++ lanes_edits given lanes) joined.pass.forms)
     × ((table : Serials) → HasSerials joined.pass.links.linked table → results_said joined.threads ≡ results_of given table (calls_of lanes))
     × ((table : Serials) → HasSerials joined.pass.links.linked table → keys_said joined.threads ≡ plan_keys given table (calls_of lanes))
-EndsSoFar given base lanes joined (Some stop) = StopsFor joined stop.error
+EndsSoFar given base lanes joined (Some stop) = Unit {0}
+
+-- the attempts of a lane have gone through the constants that their calls look at
+abbrev pub HaveAsked : {J : Type 0} → Given → Pass J → Lane J → Type 0
+HaveAsked given base lane = AsksMore given (split_pass lane.pass.links.thread base.links) lane.pass.links
+
+-- and whatever values they have
+abbrev pub EndsAnyhow : {J : Type 0} → Given → Pass J → List (Lane J) → Joined J → Option Stop → Type 0
+EndsAnyhow given base lanes joined None = AreDone (calls_of lanes) (map passes_of lanes) × All (HaveAsked given base) lanes
+EndsAnyhow given base lanes joined (Some stop) = StopsFor joined stop.error
 
 -- what is known of the form numbers that these lanes have drawn, of this many, if the base has asked for the recipes before
 pub record KnowsDraws {J : Type 0} (given : Given) (before : List (List Key)) (base : PassView) (count : ℕ) (lanes : List (Lane J)) (joined : Joined J)
@@ -130,6 +149,16 @@ pub record KnowsDraws {J : Type 0} (given : Given) (before : List (List Key)) (b
   pub few : HaveDrawnFew given before (calls_of lanes) (map passes_of lanes)
   pub room : joined.pass.forms.seat.room + length joined.pass.forms.seat.numbers + split_room * count
       ≡ base.seat.room + length base.seat.numbers + split_room * length lanes
+
+-- passes over the constants were joined to that of a base: what each knows is known, and all that each has attempted, recorded and drawn is there
+pub record JoinsConstants (base : Base) (all : List ThreadPasses) (joined : consts.PassView) : Type 0 where
+  pub table : joined.table ≡ base.links.constants.table
+  pub learnt : consts_known.Keeps base.links.constants.known joined.known
+  pub known : All (λ p. consts_known.Keeps p.links.constants.known joined.known) all
+  pub attempts : joined.attempts ≡ base.links.constants.attempts ++ flat_map (λ p. p.links.constants.attempts) all
+  pub recorded : joined.recorded ≡ base.links.constants.recorded ++ flat_map (λ p. p.links.constants.recorded) all
+  pub numbers : joined.seat.numbers ≡ base.links.constants.seat.numbers ++ flat_map (λ p. p.links.constants.seat.numbers) all
+  pub each_once : EachOnce base.links.constants.seat.numbers → serials.KnowsAll joined.seat
 
 -- P holds if the error is lack of forms
 abbrev pub IfForms : WorkError → Type 0 → Type 0
@@ -160,12 +189,19 @@ pub record AreJoinedSoFar {J : Type 0} (given : Given) (base : Pass J) (count : 
   pub forms_known : EachOnce base.forms.seat.numbers → forms_seat.KnowsAll joined.pass.forms.seat
   pub types_room : joined.pass.types.room + length joined.pass.types.holds + split_room * count
       ≡ base.types.room + length base.types.holds + split_room * length lanes
-  pub types_held : HoldsInstead given base.links.recorded joined.pass.links.recorded base.types joined.pass.types
-  pub types_asked : WasAsked (base.types.asked ++ lanes_types given lanes) joined.pass.types
-  pub draws : (before : List (List Key)) → HasAsked before base.forms
-      → IfDrawsKnown joined.stop (KnowsDraws given before base.forms count lanes joined)
+  pub linkages_kept : Keeps base.links.linkages joined.pass.links.linkages
+  pub linkages : All (λ p. Keeps p.links.linkages joined.pass.links.linkages) (map passes_of lanes)
+  pub constants : JoinsConstants (base_of base) (map passes_of lanes) joined.pass.links.constants
+  pub resolved : All (λ p. HasResolved base.links p.links) (map passes_of lanes)
+  pub constants_room : joined.pass.links.constants.seat.room + length joined.pass.links.constants.seat.numbers + split_room * count
+      ≡ base.links.constants.seat.room + length base.links.constants.seat.numbers + split_room * length lanes
+  pub types_held : At given joined.pass (λ g. HoldsInstead g base.links.recorded joined.pass.links.recorded base.types joined.pass.types)
+  pub types_asked : At given joined.pass (λ g. WasAsked (base.types.asked ++ lanes_types g lanes) joined.pass.types)
+  pub draws : At given joined.pass (λ g. (before : List (List Key)) → HasAsked before base.forms
+      → IfDrawsKnown joined.stop (KnowsDraws g before base.forms count lanes joined))
   pub stop_is : joined.stop ≡ stop_of (ends_of lanes)
-  pub ends : EndsSoFar given base.forms lanes joined joined.stop
+  pub ends : EndsAnyhow given base lanes joined joined.stop
+  pub ends_at : At given joined.pass (λ g. EndsSoFar g base.forms lanes joined joined.stop)
 
 -- these lanes were joined of those that were forked off the base for the threads
 pub record AreJoinedTo {J : Type 0} (given : Given) (base : Pass J) (threads : List (List Call)) (before after : List (Lane J)) (joined : Joined J)

@@ -15,4 +15,5 @@ pub mod Report
 pub mod RunStops
 pub mod Runs
 pub mod Stops
+pub mod Values
 pub mod Workers

@@ -21,6 +21,11 @@ abbrev pub HoldsInstead : Given → List Attempt → List Attempt → SeatView �
 HoldsInstead given before after old new =
     (t : MethodTy) → on_type t new.holds + times_type t (types_held given before) ≡ on_type t old.holds + times_type t (types_held given after)
 
+-- the seat stays with its table, and room and holds are together as many as before, whatever values constants have
+pub record StaysWhole (old new : SeatView) : Type 0 where
+  pub table : new.table ≡ old.table
+  pub whole : new.room + length new.holds ≡ old.room + length old.holds
+
 -- the seat holds what the linkages of recorded attempts hold, if it held what those before hold; room and holds are together as many as before
 pub record HoldsRecorded (given : Given) (before after : List Attempt) (old new : SeatView) : Type 0 where
   pub table : new.table ≡ old.table

@@ -37,10 +37,11 @@ pub record HaveMade (given : Given) (base : Base) (plan : List (List Call)) (end
   pub each : (thread : ℕ) (calls : List Call) (end : Option WorkError) → slice_get plan thread ≡ Some calls → slice_get ends thread ≡ Some end
       → HasMade given base thread calls end
 
--- with the base no site was attempted, and none is learnt
+-- with the base no site and no constant was attempted, and no site is learnt
 pub record IsNew (given : Given) (base : Base) : Type 0 where
   pub attempts : base.links.attempts ≡ []
   pub linked : base.links.linked ≡ replicate (length given.jobs) None
+  pub constants : base.links.constants.attempts ≡ []
 
 -- what the threads' passes are split off: a new base if there are no workers, otherwise one that has learnt all sites
 abbrev pub IsBaseWith : ℕ → Given → Base → Type 0

@@ -1,4 +1,4 @@
-ghost use Rattle.std.specs.Prelude.{◌<◌, ◌∷◌, [], length, IfOk};
+ghost use Rattle.std.specs.Prelude.{◌<◌, ◌∷◌, [], length, IfOk, OnOk};
 ghost use Rattle.mh_values.specs.HasType.{HaveTypes};
 ghost use Rattle.mh_tree.specs.Meaning.{exact, generic};
 ghost use Rattle.mh_tree.specs.Tree as tree;
@@ -15,6 +15,7 @@ ghost use Rattle.mh_plan.specs.declared.call.Call.TheVariants.{Indy};
 ghost use Rattle.mh_plan.specs.Calls.{IsCallOf};
 ghost use Rattle.mh_report.specs.Forms.{used_edits};
 ghost use Rattle.mh_runtime.specs.Asking.{call_draws};
+ghost use Rattle.mh_runtime.specs.Attempts.{HasRoomForConstants};
 ghost use Rattle.mh_runtime.specs.Linkers.{IsReadyFor, MakesCall, pass_in};
 ghost use Rattle.mh_runtime.specs.Linking.{KeepsTypes};
 
@@ -123,15 +124,18 @@ impl<'s, 'g, 't, J: Run, G: Gate> Context<'s, 'g, 't, J, G> {
         ensures goes_on { GoesOn call_draws w.old w.new }
         ensures makes { MakesCall {J = J} J.given (Indy site args.now) (pass_in pass.old w.old)
             (pass_in pass.new w.new) result }
+        ensures room_left { OnOk result (HasRoomForConstants pass.new) }
     {
         let linkage = self.linker.resolve(w, rt, pass, self.gate, site)?;
+        let _job = linkage.job();
+        linkage.told();
         Ok(linkage.call_with(machine, w.leaves, args)?)
     }
 
-    /// Makes a call of a thread, in the machine that its calls have in common. A leaf is called by a
-    /// handle of it, as the first call of its invocation. A call site is called by its linkage, and is
-    /// attempted now if the pass has learnt none. Each handle that is made is given back, except a
-    /// recorded target, also if memory, form numbers or type slots run out.
+    /// Makes a call of a thread, in the machine that its calls have in common. A leaf is called by
+    /// a handle of it, as the first call of its invocation. A call site is called by its linkage,
+    /// and is attempted now if the pass has learnt none. Each handle that is made is given back,
+    /// except a recorded target, also if memory, form numbers or type slots run out.
     pub(crate) fn call<R: Wait>(
         &self,
         machine: &mut Machine,
@@ -145,7 +149,9 @@ impl<'s, 'g, 't, J: Run, G: Gate> Context<'s, 'g, 't, J, G> {
         ensures goes_on { GoesOn call_draws w.old w.new }
         ensures makes { MakesCall {J = J} J.given call.now (pass_in pass.old w.old)
             (pass_in pass.new w.new) result }
+        ensures room_left { OnOk result (HasRoomForConstants pass.new) }
     {
+        pass.constants_told();
         match call {
             Call::Exact(id, ty, args) => call_exact(machine, w, rt, *id, ty, args),
             Call::Generic(id, ty, args) => call_generic(machine, w, rt, *id, ty, args),

@@ -56,6 +56,8 @@ impl<'s, 't, J: Run> Joined<'s, 't, J> {
     ) -> Result<(), NoMemory>
         requires pass { IsOf J.given run.now.linker.now self.old.pass }
         requires lane { IsOf J.given run.now.linker.now lane.pass }
+        requires constants { lane.pass.links.constants.table
+            ≡ self.old.pass.links.constants.table }
         requires ran { lane.ran ≢ None }
         ensures { OnOk result (JoinsLane self.old lane.entry self.new) }
     {

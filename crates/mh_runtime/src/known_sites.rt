@@ -1,5 +1,6 @@
 ghost use Rattle.std.specs.Prelude.{◌≡◌, ◌<◌, length, replicate, IfOk, None};
-ghost use Rattle.mh_runtime.specs.Passes.{FindsLinkage, HasSerials, PutsLinkage, linked_by};
+ghost use Rattle.mh_cells.specs.Values.{JoinedOnly, Keeps};
+ghost use Rattle.mh_runtime.specs.Passes.{FindsLinkage, FindsValue, HasSerials, PutsLinkage, PutsValue, linked_by};
 
 use crate::site_linker::SiteLinker;
 use mh_attempt::Linkage;
@@ -38,6 +39,8 @@ impl<'s, 't, J: Run> KnownSites<'s, 't, J> {
         ensures cells { IfOk result (λ known. known.cells ≡ linker.entry.now.cells) }
         ensures linked { IfOk result
             (λ known. linked_by known ≡ replicate (length J.given.jobs) None) }
+        ensures values { IfOk result
+            (λ known. known.values ≡ replicate (length J.given.jobs) None) }
     {
         Ok(KnownSites {
             known: Known::new(alloc, linker.cells())?,
@@ -65,7 +68,8 @@ impl<'s, 't, J: Run> KnownSites<'s, 't, J> {
     /// The linkage of a site that was learnt. It takes no memory.
     pub(crate) fn seen(&self, site: u32) -> Option<&'s Linkage<'t, J>>
         requires { site < length J.given.jobs }
-        ensures { FindsLinkage (linked_by self.now) site result }
+        ensures found { FindsLinkage (linked_by self.now) site result }
+        ensures value { FindsValue self.now.values site result }
     {
         self.known.seen(site)
     }
@@ -76,6 +80,8 @@ impl<'s, 't, J: Run> KnownSites<'s, 't, J> {
         ensures cells { self.new.cells ≡ self.old.cells }
         ensures linked { HasSerials (linked_by self.old) (linked_by self.new) }
         ensures found { FindsLinkage (linked_by self.new) site result }
+        ensures values { Keeps self.old.values self.new.values }
+        ensures value { FindsValue self.new.values site result }
     {
         self.known.find(site)
     }
@@ -91,6 +97,8 @@ impl<'s, 't, J: Run> KnownSites<'s, 't, J> {
         ensures cells { self.new.cells ≡ self.old.cells }
         ensures linked { HasSerials (linked_by self.old) (linked_by self.new) }
         ensures put { PutsLinkage (linked_by self.new) linkage.entry result }
+        ensures values { Keeps self.old.values self.new.values }
+        ensures value { PutsValue self.new.values linkage.entry.job.site result }
     {
         let site = linkage.job().site;
         self.known.put(rt, alloc, site, linkage)
@@ -102,6 +110,9 @@ impl<'s, 't, J: Run> KnownSites<'s, 't, J> {
         ensures cells { self.new.cells ≡ self.old.cells }
         ensures mine { HasSerials (linked_by self.old) (linked_by self.new) }
         ensures theirs { HasSerials (linked_by other.entry) (linked_by self.new) }
+        ensures my_values { Keeps self.old.values self.new.values }
+        ensures their_values { Keeps other.entry.values self.new.values }
+        ensures only { JoinedOnly self.old.values other.entry.values self.new.values }
     {
         let KnownSites { known } = other;
         self.known.join(known);

@@ -6,7 +6,8 @@ ghost use Rattle.mh_jobs.specs.Given.{AreJobs};
 ghost use Rattle.mh_plan.specs.Calls.{IsCallOf};
 ghost use Rattle.mh_runtime.specs.Input.{given_by};
 ghost use Rattle.mh_runtime.specs.Linkers.{AreSeats, BeginsPass, CanSplit, HasLessRoom, HasRoom, IsOf, JoinsPass, KeepsPass, MakesCall, Resolves, RunsThread, SplitsPass};
-ghost use Rattle.mh_runtime.specs.Passes.{most_sites};
+ghost use Rattle.mh_runtime.specs.Attempts.{HasRoomForConstants};
+ghost use Rattle.mh_runtime.specs.Passes.{NameConstants, most_sites};
 
 use crate::context::Context;
 use crate::input::RunInput;
@@ -15,8 +16,9 @@ use crate::site_linker::SiteLinker;
 use crate::site_pass::SitePass;
 use crate::stops::ThreadRun;
 use crate::tables::{Seats, Tables};
-use mh_attempt::{Linkage, WorkError};
+use mh_attempt::{ConstantsOf, Linkage, WorkError};
 use mh_base::NoMemory;
+use mh_condy::{ConstPass, ConstTable};
 use mh_form::Machine;
 use mh_handle::{Answer, FormTable, Work};
 use mh_intern::TypeTable;
@@ -33,11 +35,12 @@ pub const MOST_SITES: u32 = 4096;
 /// How much room for types a seat has that was split off.
 const SPLIT_ROOM: u64 = 1 << 32;
 
-/// Links the call sites of a run and makes calls of them, for threads that share it. What is recorded
-/// first at a site is the linkage of the site for all threads, an error too (JVMS SE 17, 5.4.3.6).
+/// Links the call sites of a run and makes calls of them, for threads that share it. What is
+/// recorded first at a site is the linkage of the site for all threads, an error too (JVMS SE 17,
+/// 5.4.3.6).
 ///
-/// Each thread has a [`Pass`]: the first is made by `first_pass`, and one for each further thread is
-/// split off one that there is. Once threads are done, their passes are joined.
+/// Each thread has a [`Pass`]: the first is made by `first_pass`, and one for each further thread
+/// is split off one that there is. Once threads are done, their passes are joined.
 #[derive(Drop)]
 pub struct Linker<'t, J: Run> {
     pub(crate) alloc: Global,
@@ -52,8 +55,8 @@ pub struct Linker<'t, J: Run> {
 }
 
 impl<'t, J: Run> Linker<'t, J> {
-    /// A linker of these jobs, scripts and leaves that has linked nothing. Its targets have forms and
-    /// types of these tables, and its attempts have serials of their counter.
+    /// A linker of these jobs, scripts and leaves that has linked nothing. Its targets have forms
+    /// and types of these tables, and its attempts have serials of their counter.
     pub fn new(
         alloc: Global,
         input: &RunInput<'t>,
@@ -61,6 +64,7 @@ impl<'t, J: Run> Linker<'t, J> {
     ) -> Result<Linker<'t, J>, NoMemory>
         requires named { given_by input.now ≡ J.given }
         requires jobs { AreJobs J.given }
+        requires constants { NameConstants J.given }
         requires few { length J.given.jobs ≤ most_sites }
         ensures leaves { IfOk result (λ linker. linker.leaves.now ≡ J.given.leaves) }
         ensures types { IfOk result (λ linker. linker.types.now ≡ tables.entry.now.types) }
@@ -76,12 +80,20 @@ impl<'t, J: Run> Linker<'t, J> {
         })
     }
 
-    /// The first pass, of thread 0, with seats of the linker's tables. If memory runs out, the seats are
-    /// lost, and the linker can have no pass.
-    pub fn first_pass<'s>(&'s self, seats: Seats) -> Result<Pass<'s, 't, J>, NoMemory>
+    /// The first pass, of thread 0, with seats of the linker's tables, and with the first pass over
+    /// a table of the run's constants. If memory runs out, the seats are lost, and the linker can
+    /// have no pass.
+    pub fn first_pass<'s>(
+        &'s self,
+        seats: Seats,
+        constants: &'s ConstTable<'t, ConstantsOf<J>>,
+        asked: ConstPass<'s, 't, ConstantsOf<J>>,
+    ) -> Result<Pass<'s, 't, J>, NoMemory>
         requires leaves { self.now.leaves.now ≡ J.given.leaves }
         requires seats { AreSeats self.now seats }
-        ensures begins { IfOk result (BeginsPass (length J.given.jobs) self.entry.now seats) }
+        requires asked { asked.table ≡ constants.now }
+        ensures begins { IfOk result
+            (BeginsPass (length J.given.jobs) self.entry.now seats asked.entry) }
         ensures pass { IfOk result (IsOf J.given self.entry.now) }
     {
         let Seats {
@@ -90,7 +102,7 @@ impl<'t, J: Run> Linker<'t, J> {
             serials,
         } = seats;
         Ok(Pass {
-            links: SitePass::new(self.alloc, &self.sites, serials, 0)?,
+            links: SitePass::new(self.alloc, &self.sites, serials, constants, asked, 0)?,
             forms: self.forms.first_pass(self.alloc, forms)?,
             types,
         })
@@ -98,8 +110,8 @@ impl<'t, J: Run> Linker<'t, J> {
 
     /// A pass for another thread. It has learnt the sites and the forms that this pass has, and has
     /// attempted nothing and holds no type. It has room for 2^32 serials, form numbers and holds,
-    /// which this pass must have: that is room for 65,536 calls. If memory runs out, this pass is as it
-    /// was.
+    /// which this pass must have: that is room for 65,536 calls. If memory runs out, this pass is
+    /// as it was.
     pub fn split<'s>(
         &'s self,
         pass: &mut Pass<'s, 't, J>,
@@ -116,17 +128,20 @@ impl<'t, J: Run> Linker<'t, J> {
     {
         // Room is given away once all memory is there.
         let known = pass.links.learnt(self.alloc)?;
+        let constants = pass.links.constants_learnt()?;
         let forms = self.forms.split(self.alloc, &mut pass.forms)?;
         Ok(Pass {
-            links: pass.links.split(self.alloc, &self.sites, known, thread),
+            links: pass
+                .links
+                .split(self.alloc, &self.sites, known, constants, thread),
             forms,
             types: self.types.split(&mut pass.types, SPLIT_ROOM),
         })
     }
 
-    /// Adds what another pass has learnt, attempted, recorded, drawn and held. If memory runs out, the
-    /// pass has what it had, and the serials, the form numbers and the holds of both. What the other one
-    /// has learnt and attempted may be lost.
+    /// Adds what another pass has learnt, attempted, recorded, drawn and held. If memory runs out,
+    /// the pass has what it had, and the serials, the form numbers and the holds of both. What the
+    /// other one has learnt and attempted may be lost.
     pub fn join<'s>(
         &'s self,
         pass: &mut Pass<'s, 't, J>,
@@ -134,6 +149,7 @@ impl<'t, J: Run> Linker<'t, J> {
     ) -> Result<(), NoMemory>
         requires pass { IsOf J.given self.now pass.old }
         requires other { IsOf J.given self.now other }
+        requires constants { other.links.constants.table ≡ pass.old.links.constants.table }
         ensures ok { OnOk result (JoinsPass pass.old other.entry pass.new) }
         ensures kept { KeepsPass pass.old pass.new }
         ensures pass { IsOf J.given self.entry.now pass.new }
@@ -171,9 +187,11 @@ impl<'t, J: Run> Linker<'t, J> {
         requires pass { IsOf J.given self.now pass.old }
         requires site { site < length J.given.jobs }
         requires room { HasRoom 1 pass.old }
+        requires constants { HasRoomForConstants pass.old.links }
         ensures pass { IsOf J.given self.entry.now pass.new }
         ensures resolves { Resolves J.given site pass.old pass.new result }
         ensures left { (more : ℕ) → HasRoom (more + 1) pass.old → HasRoom more pass.new }
+        ensures constants_left { OnOk result (HasRoomForConstants pass.new.links) }
     {
         let mut w = Work {
             alloc: self.alloc,
@@ -195,8 +213,8 @@ impl<'t, J: Run> Linker<'t, J> {
         linkage
     }
 
-    /// Whether a call can be made: its leaf or its site is there, and its arguments have the types of
-    /// its type, or of the site's. A site whose type cannot be read takes no arguments.
+    /// Whether a call can be made: its leaf or its site is there, and its arguments have the types
+    /// of its type, or of the site's. A site whose type cannot be read takes no arguments.
     pub fn can_make(&self, call: &Call) -> bool
         requires { self.now.leaves.now ≡ J.given.leaves }
         ensures yes { IsTrue result → IsCallOf J.given.leaves J.given.jobs call.now }
@@ -219,9 +237,11 @@ impl<'t, J: Run> Linker<'t, J> {
         requires pass { IsOf J.given self.now pass.old }
         requires call { IsCallOf J.given.leaves J.given.jobs call.now }
         requires room { HasRoom 1 pass.old }
+        requires constants { HasRoomForConstants pass.old.links }
         ensures pass { IsOf J.given self.entry.now pass.new }
         ensures makes { MakesCall J.given call.now pass.old pass.new result }
         ensures left { (more : ℕ) → HasRoom (more + 1) pass.old → HasRoom more pass.new }
+        ensures constants_left { OnOk result (HasRoomForConstants pass.new.links) }
     {
         let mut w = Work {
             alloc: self.alloc,
@@ -259,6 +279,7 @@ impl<'t, J: Run> Linker<'t, J> {
         requires pass { IsOf J.given self.now pass.old }
         requires calls { All (IsCallOf J.given.leaves J.given.jobs) calls.now }
         requires room { HasRoom (length calls.now) pass.old }
+        requires constants { HasRoomForConstants pass.old.links }
         ensures pass { IsOf J.given self.entry.now pass.new }
         ensures runs { RunsThread J.given calls.now pass.old pass.new result }
     {

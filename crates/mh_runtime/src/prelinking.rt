@@ -1,15 +1,16 @@
 ghost use Rattle.std.specs.Prelude.{◌≡◌, ◌<◌, ◌≤◌, length, IfOk, None};
 ghost use Rattle.mh_plan.specs.Plan.{most_threads};
 ghost use Rattle.mh_runtime.specs.Joining.{IsUnused};
-ghost use Rattle.mh_runtime.specs.Passes.{most_sites};
+ghost use Rattle.mh_runtime.specs.Passes.{most_sites, split_room};
 ghost use Rattle.mh_runtime.specs.Prelinked.{IsPrelinked};
 ghost use Rattle.mh_runtime.specs.Workers.{most_workers};
 
 use crate::linker::Linker;
 use crate::pass::Pass;
 use crate::stops::{Stop, first_stop, stop_of};
-use mh_attempt::WorkError;
+use mh_attempt::{ConstantsOf, WorkError};
 use mh_base::NoMemory;
+use mh_condy::ConstTable;
 use mh_jobs::Run;
 use mh_outside::Gate;
 use mh_plan::Plan;
@@ -22,6 +23,8 @@ use std::thread::Threads;
 #[derive(Drop)]
 pub(crate) struct Prelinking<'s, 't, J: Run, G> {
     pub(crate) linker: &'s Linker<'t, J>,
+    /// The table of the run's constants, over which the passes go.
+    pub(crate) constants: &'s ConstTable<'t, ConstantsOf<J>>,
     pub(crate) plan: &'s Plan,
     pub(crate) gate: &'s G,
     /// How many workers there are, at most 16.
@@ -70,6 +73,7 @@ impl<'s, 't, J: Run + Send + Sync, G: Gate + Sync> Linking for Prelinking<'s, 't
         forms = Prim.omega (arith, h.1.forms);
         holds = Prim.omega (arith, h.1.holds);
       },
+      h.2,
     ) };
 }
 
@@ -83,10 +87,10 @@ impl<'s, 't, J: Run + Send + Sync, G: Gate + Sync> SharesOut for Prelinking<'s, 
     ghost workers = { λ p. p.workers };
 
     ghost split_off = { λ p state passes. AreSplitOff J.given p.linker.now
-        (length p.plan.now) p.workers passes state };
+        p.constants.now (length p.plan.now) p.workers passes state };
 
     ghost joined = { λ p before after state. AreGatheredOf J.given p.linker.now
-        (length p.plan.now) p.workers before after state };
+        p.constants.now (length p.plan.now) p.workers before after state };
 
     fn workers(&self) -> usize {
         self.workers as usize
@@ -140,13 +144,14 @@ pub(crate) fn link_sites<'s, 't, J: Run + Send + Sync, R: Threads + Wait + Sync,
     prelinking: &Prelinking<'s, 't, J, G>,
     pass: Pass<'s, 't, J>,
 ) -> Result<Prelinked<'s, 't, J>, NoMemory>
-    requires pass { IsUnused J.given prelinking.now.linker.now pass }
+    requires pass { IsUnused J.given prelinking.now.linker.now prelinking.now.constants.now pass }
     requires leaves { prelinking.now.linker.now.leaves.now ≡ J.given.leaves }
     requires threads { length prelinking.now.plan.now ≤ most_threads }
     requires workers { (0 < prelinking.now.workers) × (prelinking.now.workers ≤ most_workers) }
     requires sites { length J.given.jobs ≤ most_sites }
+    requires constants { length J.given.constants ≤ split_room }
     ensures { IfOk result (IsPrelinked J.given prelinking.now.linker.now
-        (length prelinking.now.plan.now) prelinking.now.workers) }
+        prelinking.now.constants.now (length prelinking.now.plan.now) prelinking.now.workers) }
 {
     let mut state = Prelinked { pass, stop: None };
     share_out(rt, prelinking.linker.alloc, prelinking, &mut state)?;

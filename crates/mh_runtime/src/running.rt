@@ -1,10 +1,10 @@
-ghost use Rattle.std.specs.Prelude.{◌≡◌, ◌*◌, ◌<◌, ◌≤◌, length, IfErr, IfOk};
+ghost use Rattle.std.specs.Prelude.{◌≡◌, ◌*◌, ◌<◌, ◌≤◌, length, map, IfErr, IfOk, OnOk};
 ghost use Rattle.mh_jobs.specs.Given.{AreJobs};
 ghost use Rattle.mh_report.specs.Forms.{forms};
 ghost use Rattle.mh_report.specs.Prelinked.{draws_by, types_by};
 ghost use Rattle.mh_plan.specs.Limits.{IsWithinLimits};
 ghost use Rattle.mh_report.specs.Types.{Overfill};
-ghost use Rattle.mh_report.specs.Recorded.{recorded, serials_of, types};
+ghost use Rattle.mh_report.specs.Recorded.{recorded, row_serials, rows, serials_of, types};
 ghost use Rattle.mh_plan.specs.Calls.{AreCallsOf};
 ghost use Rattle.mh_report.specs.Results.{keys_said, results_of, results_said};
 ghost use Rattle.mh_handle.specs.Form.{most_forms};
@@ -14,15 +14,17 @@ ghost use Rattle.mh_tickets.specs.Seats as serials_seat;
 ghost use Rattle.mh_seats.specs.Room.{limit};
 ghost use Rattle.mh_runtime.specs.Bases.{base_of, pass_of};
 ghost use Rattle.mh_runtime.specs.Asking.{IfFull, IfTypesFull};
-ghost use Rattle.mh_runtime.specs.Input.{given_by};
+ghost use Rattle.mh_runtime.specs.Input.{AreConstantsOf, given_by};
 ghost use Rattle.mh_runtime.specs.Keys.{plan_keys};
 ghost use Rattle.mh_runtime.specs.Joining.{AreAllJoined, HasRoomFor, IsUnused};
 ghost use Rattle.mh_runtime.specs.Runs.{IsBaseBy, IsRunOn, IsStopOn};
 ghost use Rattle.mh_runtime.specs.Linkers.{IsOf};
-ghost use Rattle.mh_runtime.specs.Passes.{most_sites};
-ghost use Rattle.mh_runtime.specs.Report.{IsLinkedRun, IsReport, LedgerBy, ReportsJoined};
-ghost use Rattle.mh_runtime.specs.Report.{StopsJoined};
+ghost use Rattle.mh_runtime.specs.Passes.{most_sites, split_room};
+ghost use Rattle.mh_runtime.specs.Report.{ConstLedgerBy, IsLinkedRun, IsReport, LedgerBy, ReportsJoined, as_attempt, given_in, rows_in};
+ghost use Rattle.mh_runtime.specs.Report.{IsSettled, StopsJoined};
 ghost use Rattle.mh_runtime.specs.RunStops.{IsStopBy};
+ghost use Rattle.mh_runtime.specs.Attempts.{AreRecorded};
+ghost use Rattle.mh_runtime.specs.Values.{AtLinks};
 ghost use Rattle.mh_runtime.specs.Stops.{error_of};
 ghost use Rattle.mh_runtime.specs.Workers.{most_workers};
 
@@ -34,16 +36,20 @@ use crate::ordering::by_serial;
 use crate::pass::Pass;
 use crate::plan_run::PlanRun;
 use crate::prelinking::{Prelinking, link_sites};
-use crate::recording::table;
+use crate::recording::{rows, table};
+use crate::site_pass::SitePass;
 use crate::stops::Stop;
 use crate::tables::{Seats, Tables};
+use mh_attempt::ConstantsOf;
 use mh_base::{NoMemory, Seq};
+use mh_condy::{ConstAttempt, ConstTable};
 use mh_intern::TypeSeat;
-use mh_jobs::Run;
+use mh_jobs::{ConstJobs, Run};
 use mh_outside::Gate;
 use mh_plan::Plan;
-use mh_report::{Attempts, Table, ThreadAnswers};
+use mh_report::{Attempt, Attempts, ConstRows, Table, ThreadAnswers};
 use mh_threads::fork_join;
+use mh_tickets::TicketSeat;
 use std::alloc::Global;
 use std::marker::{Brand, PhantomData};
 use std::sync::Wait;
@@ -56,8 +62,13 @@ pub struct RunReport {
     pub threads: ThreadAnswers,
     /// What is recorded at each call site.
     pub table: Table,
-    /// All attempts, in the order of their serials.
+    /// All attempts to link call sites, in the order of their serials.
     pub attempts: Attempts,
+    /// What is recorded of each dynamic constant.
+    pub constants: ConstRows,
+    /// All attempts to resolve dynamic constants, in the order of their serials. The number of the
+    /// constant stands in the place of the site's.
+    pub constant_attempts: Attempts,
     /// How many forms were asked for.
     pub forms: u32,
     /// How many different types the recorded targets hold.
@@ -75,17 +86,65 @@ struct Input<'a, G> {
     workers: u32,
 }
 
+/// What all threads of a run use.
+#[derive(Drop)]
+struct Shared<'i, 't, J: Run, G> {
+    linker: Linker<'t, J>,
+    constants: ConstTable<'t, ConstantsOf<J>>,
+    plan: &'i Plan,
+    gate: &'i G,
+    workers: u32,
+}
+
 /// What a run gave, except the count of types.
 #[derive(Drop)]
 struct Linked {
     threads: ThreadAnswers,
     table: Table,
     attempts: Attempts,
+    constants: ConstRows,
+    constant_attempts: Attempts,
     forms: u32,
 }
 
+// Attempts to resolve constants, with the number of the constant in the place of the site's.
+fn resolving(alloc: Global, attempts: &[ConstAttempt]) -> Result<Vec<Attempt>, NoMemory>
+    ensures { IfOk result (λ all. all.items ≡ map as_attempt attempts.now) }
+{
+    let mut all = Vec::new(alloc);
+    for attempt in attempts {
+        all.push(Attempt {
+            thread: attempt.thread,
+            site: attempt.constant,
+            serial: attempt.serial,
+        })?;
+    }
+    Ok(all)
+}
+
+// What is recorded of constants and at sites, in the view of a pass that all others were joined to:
+// all that it has learnt was recorded by an attempt that it has recorded.
+fn settled<J: Run, R: Wait>(
+    rt: &R,
+    alloc: Global,
+    links: &SitePass<'_, '_, J>,
+) -> Result<(ConstRows, Table), NoMemory>
+    ensures rows { IfOk result (λ found. found.0 ≡ rows_in links.now.constants.known) }
+    ensures table { IfOk result (λ found. AtLinks J.given links.now
+        (λ given. found.1 ≡ recorded given links.now.linked)) }
+    ensures entries { OnOk result (length links.now.linked ≡ length J.given.jobs) }
+    ensures own { OnOk result (AreRecorded links.now links.now.linked) }
+    ensures settled { OnOk result (IsSettled J.given links.now) }
+{
+    links.told();
+    links.constants_told();
+    let rows = rows(rt, alloc, links.constants())?;
+    let table = table(rt, alloc, links)?;
+    Ok((rows, table))
+}
+
 // What a run gave whose threads were joined, and the seat of types that holds what is recorded.
-#[tactic(auto, using(crate::proofs::reports::OutsideStops::outside_joined))]
+#[tactic(auto, using(crate::proofs::reports::OutsideStops::outside_report))]
 fn report<J: Run, R: Wait>(
     rt: &R,
     alloc: Global,
@@ -93,27 +152,31 @@ fn report<J: Run, R: Wait>(
 ) -> Result<(Linked, TypeSeat), Stop>
     ensures run { IfOk result
         (λ reported. ReportsJoined J.given joined.entry reported.0 reported.1) }
-    ensures stop { IfErr result (StopsJoined joined.entry) }
+    ensures stop { IfErr result (StopsJoined J.given joined.entry) }
 {
     let Joined {
         pass,
         threads,
         stop,
     } = joined;
-    if let Some(stop) = stop {
-        return Err(stop);
-    }
     let Pass {
         links,
         forms,
         types,
     } = pass;
 
-    // What a thread has recorded is what is linked.
+    // Also where a thread has stopped, all that was learnt was recorded by one of the threads.
+    let (constants, table) = settled(rt, alloc, &links)?;
+    if let Some(stop) = stop {
+        return Err(stop);
+    }
     let _recorded = links.recorded();
+    let resolving = resolving(alloc, links.constants().attempts())?;
     let linked = Linked {
         threads,
-        table: table(rt, alloc, &links)?,
+        table,
+        constants,
+        constant_attempts: by_serial(resolving),
         forms: forms.len(),
         attempts: by_serial(links.into_attempts()),
     };
@@ -151,7 +214,7 @@ fn run_lanes<
 }
 
 // Runs a plan, whose threads' passes are split off this one.
-#[tactic(auto, using(crate::proofs::reports::OutsideStops::outside_on))]
+#[tactic(auto, using(crate::proofs::reports::OutsideStops::outside_pass))]
 fn run_pass<
     's,
     't,
@@ -193,13 +256,15 @@ fn base_pass<'s, 't, J: Run + Send + Sync, R: Threads + Wait + Sync, G: Gate + S
     prelinking: &Prelinking<'s, 't, J, G>,
     pass: Pass<'s, 't, J>,
 ) -> Result<Pass<'s, 't, J>, Stop>
-    requires pass { IsUnused J.given prelinking.now.linker.now pass }
+    requires pass { IsUnused J.given prelinking.now.linker.now prelinking.now.constants.now pass }
     requires leaves { prelinking.now.linker.now.leaves.now ≡ J.given.leaves }
     requires limits { IsWithinLimits prelinking.now.plan.now }
     requires few { prelinking.now.workers ≤ most_workers }
     requires sites { length J.given.jobs ≤ most_sites }
+    requires constants { AreConstantsOf J.given }
+    requires few_constants { length J.given.constants ≤ split_room }
     ensures base { IfOk result (IsBaseBy J.given prelinking.now.linker.now
-        (length prelinking.now.plan.now) prelinking.now.workers) }
+        prelinking.now.constants.now (length prelinking.now.plan.now) prelinking.now.workers) }
     ensures stop { IfErr result
         (IsStopBy J.given prelinking.now.workers prelinking.now.plan.now) }
     ensures full { IfFull (error_of result)
@@ -211,20 +276,67 @@ fn base_pass<'s, 't, J: Run + Send + Sync, R: Threads + Wait + Sync, G: Gate + S
         return Ok(pass);
     }
     let prelinked = link_sites(rt, prelinking, pass)?;
-    match prelinked.stop {
-        Some(stop) => Err(stop),
-        None => Ok(prelinked.pass),
+    if let Some(lowest) = prelinked.stop {
+        settled(rt, prelinking.linker.alloc, &prelinked.pass.links)?;
+        return Err(lowest);
     }
+    Ok(prelinked.pass)
 }
 
-// Runs a plan with a linker that is new, and with seats that have all the room.
+// Runs a plan with a linker and a table of constants that are new, and with seats that have all the
+// room.
 #[tactic(auto, using(crate::proofs::reports::OutsideStops::outside_steps))]
-fn run_linked<'t, J: Run + Send + Sync, R: Threads + Wait + Sync, G: Gate + Sync>(
+fn run_linked<'s, 'i, 't, J: Run + Send + Sync, R: Threads + Wait + Sync, G: Gate + Sync>(
+    rt: &R,
+    shared: &'s Shared<'i, 't, J, G>,
+    seats: Seats,
+    asked: TicketSeat,
+) -> Result<(Linked, TypeSeat), Stop>
+    requires constants { AreConstantsOf J.given }
+    requires few_constants { length J.given.constants ≤ split_room }
+    requires leaves { shared.now.linker.leaves.now ≡ J.given.leaves }
+    requires calls { AreCallsOf J.given.leaves J.given.jobs shared.now.plan.now }
+    requires limits { IsWithinLimits shared.now.plan.now }
+    requires few { shared.now.workers ≤ most_workers }
+    requires sites { length J.given.jobs ≤ most_sites }
+    requires types { seats.types ≡ types_seat.new_seat shared.now.linker.types.now limit }
+    requires forms { seats.forms ≡ forms_seat.new_seat shared.now.linker.forms.now limit }
+    requires serials { seats.serials ≡ serials_seat.new_seat shared.now.linker.sites.serials limit }
+    requires asked { asked ≡ serials_seat.new_seat shared.now.constants.serials limit }
+    ensures run { IfOk result (λ run. IsLinkedRun J.given shared.now.workers shared.now.plan.now
+        shared.now.linker.types.now run.0 run.1) }
+    ensures stop { IfErr result (IsStopBy J.given shared.now.workers shared.now.plan.now) }
+    ensures full { IfFull (error_of result)
+        (most_forms < draws_by J.given shared.now.workers shared.now.plan.now) }
+    ensures no_slot { IfTypesFull (error_of result) (λ bucket. Overfill bucket
+        (types_by J.given shared.now.workers shared.now.plan.now)) }
+{
+    let linker = &shared.linker;
+    let constants = &shared.constants;
+    let prelinking = Prelinking {
+        linker,
+        constants,
+        plan: shared.plan,
+        gate: shared.gate,
+        workers: shared.workers,
+    };
+    let asked = constants.first_pass(asked)?;
+    let pass = linker.first_pass(seats, constants, asked)?;
+    let base = base_pass(rt, &prelinking, pass)?;
+    run_pass::<J, Brand, R, G>(rt, linker, base, shared.plan, shared.gate)
+}
+
+// The same with a linker and a table that are nowhere else.
+fn run_owned<'t, J: Run + Send + Sync, R: Threads + Wait + Sync, G: Gate + Sync>(
     rt: &R,
     linker: Linker<'t, J>,
+    constants: ConstTable<'t, ConstantsOf<J>>,
     seats: Seats,
+    asked: TicketSeat,
     input: &Input<'_, G>,
 ) -> Result<(Linked, TypeSeat), Stop>
+    requires constants { AreConstantsOf J.given }
+    requires few_constants { length J.given.constants ≤ split_room }
     requires leaves { linker.leaves.now ≡ J.given.leaves }
     requires calls { AreCallsOf J.given.leaves J.given.jobs input.now.plan.now }
     requires limits { IsWithinLimits input.now.plan.now }
@@ -233,6 +345,7 @@ fn run_linked<'t, J: Run + Send + Sync, R: Threads + Wait + Sync, G: Gate + Sync
     requires types { seats.types ≡ types_seat.new_seat linker.types.now limit }
     requires forms { seats.forms ≡ forms_seat.new_seat linker.forms.now limit }
     requires serials { seats.serials ≡ serials_seat.new_seat linker.sites.serials limit }
+    requires asked { asked ≡ serials_seat.new_seat constants.serials limit }
     ensures run { IfOk result (λ run. IsLinkedRun J.given input.now.workers input.now.plan.now
         linker.entry.types.now run.0 run.1) }
     ensures stop { IfErr result (IsStopBy J.given input.now.workers input.now.plan.now) }
@@ -241,15 +354,23 @@ fn run_linked<'t, J: Run + Send + Sync, R: Threads + Wait + Sync, G: Gate + Sync
     ensures no_slot { IfTypesFull (error_of result) (λ bucket. Overfill bucket
         (types_by J.given input.now.workers input.now.plan.now)) }
 {
-    let prelinking = Prelinking {
-        linker: &linker,
+    let shared = Shared {
+        linker,
+        constants,
         plan: input.plan,
         gate: input.gate,
         workers: input.workers,
     };
-    let pass = linker.first_pass(seats)?;
-    let base = base_pass(rt, &prelinking, pass)?;
-    run_pass::<J, Brand, R, G>(rt, &linker, base, input.plan, input.gate)
+    run_linked(rt, &shared, seats, asked)
+}
+
+// There are at most as many constants as a pass may draw serials that was split off. More take more
+// memory than there is.
+fn few_constants(constants: &ConstJobs) -> Result<(), NoMemory>
+    ensures { OnOk result (length constants.now ≤ split_room) }
+{
+    let _count = u32::try_from(constants.len()).map_err(|_| NoMemory)?;
+    Ok(())
 }
 
 // Runs a plan of what the run's type parameter names. Once all is joined, the table of types has
@@ -264,6 +385,7 @@ fn run_named<J: Run + Send + Sync, R: Threads + Wait + Sync, G: Gate + Sync>(
     requires limits { IsWithinLimits input.now.plan.now }
     requires workers { input.now.workers ≤ most_workers }
     requires jobs { AreJobs J.given }
+    requires constants { AreConstantsOf J.given }
     requires few { length J.given.jobs ≤ most_sites }
     ensures run { IfOk result (IsReport J.given input.now.workers input.now.plan.now) }
     ensures stop { IfErr result (IsStopBy J.given input.now.workers input.now.plan.now) }
@@ -273,18 +395,30 @@ fn run_named<J: Run + Send + Sync, R: Threads + Wait + Sync, G: Gate + Sync>(
         (types_by J.given input.now.workers input.now.plan.now)) }
 {
     let (tables, seats) = Tables::new(input.alloc)?;
-    let linker = Linker::<J>::new(input.alloc, input.given, &tables)?;
-    let (run, seat) = run_linked(rt, linker, seats, input)?;
+    let given = input.given;
+    few_constants(given.constants)?;
+    let linker = Linker::<J>::new(input.alloc, given, &tables)?;
+    let (constants, asked) = ConstTable::<ConstantsOf<J>>::new(
+        input.alloc,
+        given.constants,
+        given.scripts,
+        given.leaves,
+    )?;
+    let (run, seat) = run_owned(rt, linker, constants, seats, asked, input)?;
     let Linked {
         threads,
         table,
         attempts,
+        constants,
+        constant_attempts,
         forms,
     } = run;
     Ok(RunReport {
         threads,
         table,
         attempts,
+        constants,
+        constant_attempts,
         forms,
         types: tables.types.close(seat),
     })
@@ -297,6 +431,9 @@ fn run_named<J: Run + Send + Sync, R: Threads + Wait + Sync, G: Gate + Sync>(
 /// A thread links a site at its first call of it, unless it finds it linked by another thread. What
 /// is recorded first stays, even an error, and each caller of the site gets it. The gate is called
 /// by a thread before and after it records.
+///
+/// An attempt to link a site resolves the dynamic constants among its static arguments first, each
+/// once over all threads. The gate is not called for them.
 ///
 /// If there are workers, at most 16, they link all call sites before the calls, concurrently. Each
 /// takes sites that no other one takes, with a pass of its own. They have the numbers after those
@@ -318,19 +455,26 @@ pub fn run_all<R: Threads + Wait + Sync, G: Gate + Sync>(
     requires limits { IsWithinLimits plan.now }
     requires workers { workers ≤ most_workers }
     requires jobs { AreJobs (given_by input.now) }
+    requires constants { AreConstantsOf (given_by input.now) }
     requires few { length input.now.jobs.now ≤ most_sites }
     ensures ledger { IfOk result (λ run. LedgerBy workers plan.now (length input.now.jobs.now)
         (serials_of run.table) run.attempts) }
-    ensures table { IfOk result
-        (λ run. run.table ≡ recorded (given_by input.now) (serials_of run.table)) }
+    ensures constants { IfOk result (λ run. ConstLedgerBy (given_by input.now) workers plan.now
+        run.attempts (row_serials run.constants) run.constant_attempts) }
+    ensures rows { IfOk result (λ run. run.constants
+        ≡ rows (given_by input.now) (row_serials run.constants)) }
+
+    // What else is reported is said where constants are what they are by these serials.
+    ensures table { IfOk result (λ run. run.table
+        ≡ recorded (given_in input.now run) (serials_of run.table)) }
     ensures results { IfOk result (λ run. results_said run.threads
-        ≡ results_of (given_by input.now) (serials_of run.table) plan.now) }
+        ≡ results_of (given_in input.now run) (serials_of run.table) plan.now) }
     ensures keys { IfOk result (λ run. keys_said run.threads
-        ≡ plan_keys (given_by input.now) (serials_of run.table) plan.now) }
+        ≡ plan_keys (given_in input.now run) (serials_of run.table) plan.now) }
     ensures forms { IfOk result
-        (λ run. run.forms ≡ forms (given_by input.now) plan.now run.attempts) }
+        (λ run. run.forms ≡ forms (given_in input.now run) plan.now run.attempts) }
     ensures types { IfOk result
-        (λ run. run.types ≡ types (given_by input.now) (serials_of run.table)) }
+        (λ run. run.types ≡ types (given_in input.now run) (serials_of run.table)) }
     ensures stop { IfErr result (IsStopBy (given_by input.now) workers plan.now) }
     ensures full { IfFull (error_of result)
         (most_forms < draws_by (given_by input.now) workers plan.now) }

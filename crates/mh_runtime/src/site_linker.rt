@@ -1,13 +1,14 @@
-ghost use Rattle.std.specs.Prelude.{◌≡◌, ◌<◌, ◌≤◌, length, IfOk, None};
+ghost use Rattle.std.specs.Prelude.{◌≡◌, ◌<◌, ◌≤◌, length, IfOk, None, OnOk};
 ghost use Rattle.mh_handle.specs.Works.{GoesOn};
 ghost use Rattle.mh_jobs.specs.Given.{AreJobs};
 ghost use Rattle.mh_report.specs.Results.{serial_at};
 ghost use Rattle.mh_runtime.specs.Asking.{call_draws};
 ghost use Rattle.mh_runtime.specs.Linkers.{IsReadyFor, Resolves, pass_in};
-ghost use Rattle.mh_runtime.specs.Passes.{most_sites};
+ghost use Rattle.mh_runtime.specs.Attempts.{HasRoomForConstants};
+ghost use Rattle.mh_runtime.specs.Passes.{NameConstants, most_sites};
 
 use crate::site_pass::SitePass;
-use mh_attempt::{Linkage, WorkError, attempt};
+use mh_attempt::{Linkage, WorkError};
 use mh_base::NoMemory;
 use mh_cells::Cells;
 use mh_handle::Work;
@@ -52,6 +53,7 @@ impl<'t, J: Run> SiteLinker<'t, J> {
         requires jobs { jobs.now ≡ J.given.jobs }
         requires scripts { scripts.now ≡ J.given.scripts }
         requires are_jobs { AreJobs J.given }
+        requires constants { NameConstants J.given }
         requires few { length J.given.jobs ≤ most_sites }
         ensures { IfOk result (λ linker. linker.serials ≡ tickets.entry.now) }
     {
@@ -93,8 +95,8 @@ impl<'t, J: Run> SiteLinker<'t, J> {
         &self.cells
     }
 
-    // Attempts a site that the pass has not learnt, and records the linkage, unless another thread has
-    // recorded one before.
+    // Attempts a site that the pass has not learnt, and records the linkage, unless another thread
+    // has recorded one before.
     fn attempt<'s, R: Wait, G: Gate>(
         &'s self,
         w: &mut Work<'_, 't>,
@@ -109,9 +111,10 @@ impl<'t, J: Run> SiteLinker<'t, J> {
         ensures goes_on { GoesOn call_draws w.old w.new }
         ensures resolves { Resolves {J = J} J.given site (pass_in pass.old w.old)
             (pass_in pass.new w.new) result }
+        ensures room_left { OnOk result (HasRoomForConstants pass.new) }
     {
         let serial = pass.begin(self, site)?;
-        let linkage = attempt(w, rt, self.scripts, self.jobs.get(site), serial)?;
+        let linkage = pass.attempt(w, rt, self.scripts, self.jobs.get(site), serial)?;
         gate.before_record(pass.thread(), site);
         let linkage = pass.record(w, rt, linkage)?;
         gate.after_record(pass.thread(), site);
@@ -135,6 +138,7 @@ impl<'t, J: Run> SiteLinker<'t, J> {
         ensures goes_on { GoesOn call_draws w.old w.new }
         ensures resolves { Resolves {J = J} J.given site (pass_in pass.old w.old)
             (pass_in pass.new w.new) result }
+        ensures room_left { OnOk result (HasRoomForConstants pass.new) }
     {
         if let Some(found) = pass.find(site) {
             return Ok(found);

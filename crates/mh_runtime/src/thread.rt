@@ -19,8 +19,8 @@ use mh_report::Answers;
 use std::sync::Wait;
 
 impl<'s, 'g, 't, J: Run, G: Gate> Context<'s, 'g, 't, J, G> {
-    // Makes the calls of a thread, in order and in one machine, up to the first that stops, and adds
-    // their answers.
+    // Makes the calls of a thread, in order and in one machine, up to the first that stops, and
+    // adds their answers.
     fn make_calls<R: Wait>(
         &self,
         w: &mut Work<'_, 't>,
@@ -36,6 +36,7 @@ impl<'s, 'g, 't, J: Run, G: Gate> Context<'s, 'g, 't, J, G> {
         ensures runs { RunsThread {J = J} J.given calls.now (pass_in pass.old w.old)
             (pass_in pass.new w.new) (run_of answers.new result) }
     {
+        pass.constants_told();
         let mut machine = Machine::new(w.alloc);
         for next in calls.as_slice() {
             answers.push(self.call(&mut machine, w, rt, pass, next)?)?;

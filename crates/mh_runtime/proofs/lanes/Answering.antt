@@ -1,6 +1,6 @@
 -- The answers to the first calls of a thread, and where its calls end.
 use Rattle.std.proofs.Common.{◌≡◌, refl, sym, ◌∙◌, ap, subst, ℕ, ◌<◌, ◌≤◌, List, length, take, Result, Ok, Err, arith}
-use Rattle.std.specs.Prelude.{IsErrAnd}
+use Rattle.std.specs.Prelude.{IsErrAnd, OnOk}
 use Rattle.std.specs.List.{flat_map}
 use Rattle.std.specs.Result.{result_err}
 use Rattle.mh_handle.specs.declared.answer.Answer.{Answer}
@@ -60,3 +60,8 @@ module _ (items calls : List Call) (i : ℕ) (answers after : List Answer) (same
 pub way-ended : (r : Result (Unit {0}) WorkError) → r ≡ ending (result_err r)
 way-ended (Ok done) = refl
 way-ended (Err e) = refl
+
+-- calls that have stopped need not have what calls have that ended well
+pub stopped-so : (r : Result (Unit {0}) WorkError) (e : WorkError) → IsErrAnd r (λ x. x ≡ e) → (P : Type 0) → OnOk (ending (result_err r)) P
+stopped-so (Ok done) e is P = absurd is
+stopped-so (Err x) e is P = tt

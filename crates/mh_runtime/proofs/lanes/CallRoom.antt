@@ -1,9 +1,11 @@
 -- How much room calls leave.
-use Rattle.std.proofs.Common.{◌∙◌, ap, ℕ, ◌+◌, arith}
+use Rattle.std.proofs.Common.{◌≡◌, ◌∙◌, ap, ℕ, ◌+◌, arith}
 use Rattle.mh_handle.specs.Passes.{PassView}
 use Rattle.mh_handle.specs.Seats as forms_seat
 use Rattle.mh_intern.specs.Views.{SeatView}
 use Rattle.mh_tickets.specs.Seats as serials_seat
+use Rattle.mh_seats.specs.Room.{limit}
+use Rattle.mh_condy.specs.Passes as consts
 use Rattle.mh_runtime.specs.declared.linker.Linker.{Linker}
 use Rattle.mh_runtime.specs.declared.pass.Pass.{Pass}
 use Rattle.mh_runtime.specs.declared.tables.Seats.{Seats}
@@ -30,10 +32,11 @@ module _ {J : Type 0} where
   }
 
   -- the first pass has all the room that its seats have
-  pub all_room : (sites : ℕ) (linker : Linker J) (tables : Tables) (seats : Seats) (pass : Pass J) → BeginsPass sites linker seats pass →
-      HaveAll tables seats → HasAllRoom pass
-  all_room sites linker tables seats pass begins all = record {
+  pub all_room : (sites : ℕ) (linker : Linker J) (tables : Tables) (seats : Seats) (asked : consts.PassView) (pass : Pass J) →
+      BeginsPass sites linker seats asked pass → asked.seat.room ≡ limit → HaveAll tables seats → HasAllRoom pass
+  all_room sites linker tables seats asked pass begins room all = record {
     serials = ap (λ (p : LinkPass). p.seat.room) begins.links ∙ ap (λ (s : serials_seat.SeatView). s.room) all.serials_are;
+    constants = ap (λ (p : LinkPass). p.constants.seat.room) begins.links ∙ room;
     forms = ap (λ (p : PassView). p.seat.room) begins.forms ∙ ap (λ (s : forms_seat.SeatView). s.room) all.forms_are;
     types = ap (λ (s : SeatView). s.room) begins.types_are ∙ ap (λ (s : SeatView). s.room) all.types_are;
   }
@@ -42,6 +45,7 @@ module _ {J : Type 0} where
   pub can_split : (pass : Pass J) → HasAllRoom pass → CanSplit pass
   can_split pass has = record {
     serials = let a = has.serials in omega (arith, a);
+    constants = let a = has.constants in omega (arith, a);
     forms = let a = has.forms in omega (arith, a);
     holds = let a = has.types in omega (arith, a);
   }

@@ -13,6 +13,12 @@ use Rattle.mh_intern.proofs.seat.TypeSeat.TheSendSync as types
 use Rattle.mh_intern.proofs.table.TypeTable.TheSendSync as type_table
 use Rattle.mh_leaves.proofs.leaves.Leaves.TheSendSync as leaves
 use Rattle.mh_jobs.specs.declared.run.Run.{Ghosts}
+use Rattle.mh_link.specs.Named.{run_of}
+use Rattle.mh_condy.specs.declared.run.ConstRun.{Ghosts as ConstGhosts}
+use Rattle.mh_condy.specs.contracts.pass.ConstPass as ConstPass
+use Rattle.mh_condy.specs.contracts.table.ConstTable as ConstTable
+use Rattle.mh_condy.proofs.Crossing as constants
+use Rattle.mh_attempt.specs.contracts.constants.ConstantsOf as ConstantsOf
 use Rattle.mh_attempt.proofs.linking.Crossing.{linkage-send, linkage-sync}
 use Rattle.mh_attempt.proofs.error.WorkError.TheSendSync as error
 use Rattle.mh_report.proofs.attempt.Attempt.TheSendSync as attempt
@@ -32,6 +38,30 @@ use Rattle.mh_runtime.specs.contracts.site_linker.SiteLinker as SiteLinker
 use Rattle.mh_runtime.specs.contracts.site_pass.SitePass as SitePass
 use Rattle.mh_runtime.specs.contracts.stops.ThreadRun as ThreadRun
 
+-- ---- the constants of a run
+
+-- what names them
+abbrev pub constants_of : (R : RattleType) (g : Ghosts R.Denot) → ConstGhosts (ConstantsOf.the_row R).Denot
+constants_of R g = record { run = run_of g.given }
+
+of-send : (R : RattleType) (g : Ghosts R.Denot) → IsSend R → IsSync R → IsSend (ConstantsOf.the_row R)
+of-send R g send sync = search (crosses, sendable) depth 20
+
+of-sync : (R : RattleType) (g : Ghosts R.Denot) → IsSend R → IsSync R → IsSync (ConstantsOf.the_row R)
+of-sync R g send sync = search (crosses, sendable) depth 20
+
+-- their table, which threads share
+pub constants-sync : (t : NamedLft) (R : RattleType) (g : Ghosts R.Denot) → IsSend R → IsSync R →
+    IsSync (ConstTable.the_row t (ConstantsOf.the_row R) (constants_of R g))
+constants-sync t R g send sync =
+    constants.table_sync t (ConstantsOf.the_row R) (constants_of R g) (of-send R g send sync) (of-sync R g send sync)
+
+-- and a pass over it
+constants-send : (s t : NamedLft) (R : RattleType) (g : Ghosts R.Denot) → IsSend R → IsSync R →
+    IsSend (ConstPass.the_row s t (ConstantsOf.the_row R) (constants_of R g))
+constants-send s t R g send sync =
+    constants.pass_send t (ConstantsOf.the_row R) (constants_of R g) (of-send R g send sync) (of-sync R g send sync) s
+
 -- ---- passes, by what was shown of their parts, since a search that goes down through them all runs out of steps
 
 known-send : (s t : NamedLft) (R : RattleType) (g : Ghosts R.Denot) → IsSend R → IsSync R → IsSend (KnownSites.the_row s t R g)
@@ -45,6 +75,8 @@ links-send s t R g send sync =
     let k = known-send s t R g send sync in
     let a = attempt.the_send in
     let e = seat.the_send in
+    let c = constants-sync t R g send sync in
+    let d = constants-send s t R g send sync in
     search (crosses, sendable) depth 20
 
 -- a pass, for a thread that is given it; and as a field of what has one

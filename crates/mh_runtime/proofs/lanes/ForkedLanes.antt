@@ -23,7 +23,7 @@ use Rattle.mh_runtime.specs.Bases.{base_of}
 use Rattle.mh_runtime.specs.Joining.{JoinsLane, AreForked, AreFresh, AreJoinedTo, IsFreshFor, IsLeft, calls_of, ends_of}
 use Rattle.mh_runtime.specs.Lanes.{HasRun, IsReadyLane}
 use Rattle.mh_runtime.specs.Linkers.{CanSplit, IsOf, SplitsPass}
-use Rattle.mh_runtime.specs.Passes.{LinkPass, split_pass, split_room, with_seat}
+use Rattle.mh_runtime.specs.Passes.{LinkPass, split_pass, split_room, with_seats}
 use Rattle.mh_runtime.specs.RunStops.{HasMade, HaveMade}
 use Rattle.mh_runtime.specs.Stops.{end_in}
 use Rattle.mh_runtime.proofs.lanes.JoiningSteps.{joined-push}
@@ -46,8 +46,10 @@ one-less room n = omega arith
 
 module _ {J : Type 0} (base : Pass J) where
   -- the base with so much room
-  abbrev links_with : ℕ → LinkPass
-  links_with room = with_seat (record { tickets = base.links.seat.tickets; numbers = base.links.seat.numbers; room = room }) base.links
+  abbrev links_with : ℕ → ℕ → LinkPass
+  links_with room constants =
+      with_seats (record { tickets = base.links.seat.tickets; numbers = base.links.seat.numbers; room = room })
+      (record { tickets = base.links.constants.seat.tickets; numbers = base.links.constants.seat.numbers; room = constants }) base.links
 
   abbrev forms_with : ℕ → PassView
   forms_with room = form_joins.with_seat (record { table = base.forms.seat.table; numbers = base.forms.seat.numbers; room = room }) base.forms
@@ -58,8 +60,9 @@ module _ {J : Type 0} (base : Pass J) where
   -- one pass more was split off
   pub left-more : (n thread : ℕ) (old new other : Pass J) → IsLeft n base old → SplitsPass thread old new other → IsLeft (n + 1) base new
   left-more n thread old new other left splits = record {
-    links = splits.links_left ∙ (ap (λ (p : LinkPass). with_seat (serials.with_less_room split_room p.seat) p) left.links
-        ∙ ap links_with (one-less base.links.seat.room n));
+    links = splits.links_left
+        ∙ (ap (λ (p : LinkPass). with_seats (serials.with_less_room split_room p.seat) (serials.with_less_room split_room p.constants.seat) p) left.links
+        ∙ ap₂ links_with (one-less base.links.seat.room n) (one-less base.links.constants.seat.room n));
     forms = splits.forms_left ∙ (ap (λ (p : PassView). form_joins.with_seat (forms.with_less_room form_joins.split_room p.seat) p) left.forms
         ∙ ap forms_with (one-less base.forms.seat.room n));
     types = splits.types_left ∙ (ap (types.with_less_room split_room) left.types ∙ ap types_with (one-less base.types.room n));
@@ -68,8 +71,8 @@ module _ {J : Type 0} (base : Pass J) where
   -- a lane with a pass that was split off
   split-fresh : (given : Given) (n thread : ℕ) (old new : Pass J) (calls : List Call) (lane : Lane J) → IsLeft n base old →
       SplitsPass thread old new lane.pass → lane.calls.now ≡ calls → All (IsCallOf given.leaves given.jobs) calls → length calls ≤ most_calls →
-      IsFreshFor given base thread calls lane
-  split-fresh given n thread old new calls lane left splits same are few =
+      length base.links.constants.known ≤ split_room → IsFreshFor given base thread calls lane
+  split-fresh given n thread old new calls lane left splits same are few few_constants =
       let thread_is : lane.pass.links.thread ≡ thread = ap (λ (p : LinkPass). p.thread) splits.links in
       record {
         can_run = record {
@@ -78,6 +81,7 @@ module _ {J : Type 0} (base : Pass J) where
           types_are = splits.types ∙ ap (λ (s : types.SeatView). types.new_seat s.table split_room) left.types;
           calls = subst (All (IsCallOf given.leaves given.jobs)) (sym same) are;
           few = subst (λ cs. length cs ≤ most_calls) (sym same) few;
+          few_constants = few_constants;
         };
         thread_is = thread_is;
         calls_are = same;
@@ -113,10 +117,13 @@ module _ {J : Type 0} (given : Given) (base : Pass J) (threads : List (List Call
     pub can-split : CanSplit old.pass
     can-split =
         let s : old.pass.links.seat.room ≡ base.links.seat.room - split_room * length lanes = ap (λ (p : LinkPass). p.seat.room) forked.pass.links in
+        let k : old.pass.links.constants.seat.room ≡ base.links.constants.seat.room - split_room * length lanes =
+        ap (λ (p : LinkPass). p.constants.seat.room) forked.pass.links in
         let f : old.pass.forms.seat.room ≡ base.forms.seat.room - split_room * length lanes = ap (λ (p : PassView). p.seat.room) forked.pass.forms in
         let t : old.pass.types.room ≡ base.types.room - split_room * length lanes = ap (λ (s : types.SeatView). s.room) forked.pass.types in
         record {
           serials = omega (arith, s, next-within, forked.room.serials);
+          constants = omega (arith, k, next-within, forked.room.constants);
           forms = omega (arith, f, next-within, forked.room.forms);
           holds = omega (arith, t, next-within, forked.room.holds);
         }
@@ -125,6 +132,7 @@ module _ {J : Type 0} (given : Given) (base : Pass J) (threads : List (List Call
     module _ (new : Joined J) (lane : Lane J) (splits : SplitsPass (length lanes) old.pass new.pass lane.pass) (same : lane.calls.now ≡ calls) where
       lane-fresh : IsFreshFor given base (length lanes) calls lane
       lane-fresh = split-fresh base given (length lanes) (length lanes) old.pass new.pass calls lane forked.pass splits same next-calls next-few
+          forked.room.few_constants
 
       forked-push : new.threads ≡ old.threads → new.stop ≡ old.stop → AreForked given base threads new (lanes ++ lane ∷ [])
       forked-push same_threads same_stop =

@@ -4,7 +4,7 @@ use Rattle.std.specs.Prelude.{slice_get}
 use Rattle.std.proofs.lemmas.Option.{slice_get_within}
 use Rattle.mh_base.proofs.Slices.{slice_get-push}
 use Rattle.mh_edit.specs.declared.key.Key.{Key}
-use Rattle.mh_jobs.specs.Given.{Given}
+use Rattle.mh_jobs.specs.Given.{Found, Given, under}
 use Rattle.mh_attempt.specs.declared.error.WorkError.{WorkError}
 use Rattle.mh_plan.specs.declared.call.Call.{Call}
 use Rattle.mh_plan.specs.Limits.{calls_in}
@@ -46,6 +46,16 @@ pub used-push : (given : Given) (threads : List (List Call)) (all : List ThreadP
 used-push given threads all calls p used one = record {
   count = one-longer threads all calls p used.count;
   each = each-push (λ thread calls p. IsUsedBy given thread calls p) threads all calls p used.count used.each one;
+}
+
+-- whatever values constants have
+pub used-under : (given : Given) (known : Found) (threads : List (List Call)) (all : List ThreadPasses) → AreUsed given threads all →
+    AreUsed (under known given) threads all
+used-under given known threads all used = record {
+  count = used.count;
+  each = λ thread calls passes named at.
+      let one = used.each thread calls passes named at in
+      record { thread_is = one.thread_is; run = one.run };
 }
 
 pub done-push : (threads : List (List Call)) (all : List ThreadPasses) (calls : List Call) (p : ThreadPasses) →

@@ -1,7 +1,8 @@
 -- Items of a list by their places, where one more is put last.
-use Rattle.std.proofs.Common.{◌≡◌, ℕ, zero, suc, ◌+◌, ◌<◌, List, get_or, subst, Some, arith}
+use Rattle.std.proofs.Common.{◌≡◌, ℕ, zero, suc, ◌+◌, ◌-◌, ◌<◌, ◌≤◌, List, get_or, subst, Some, arith}
 use Rattle.std.specs.Prelude.{slice_get, Contains}
 use Rattle.std.specs.List.{range_with_len}
+use Rattle.std.proofs.lemmas.List.FromFn.{length-range_with_len}
 use Rattle.std.proofs.lemmas.Option.{get_or_from_slice_get, slice_get_within}
 
 -- ---- items
@@ -17,3 +18,12 @@ range-from from (suc n) zero within = omega arith
 range-from from (suc n) (suc k) within =
     let same : (from + 1) + k ≡ from + suc k = omega arith in
     subst (λ d. get_or (range_with_len (from + 1) n) k d ≡ d) same (range-from (from + 1) n k (omega (arith, within)))
+
+-- a number is one of a range
+pub in-range : (n serial : ℕ) → 1 ≤ serial → serial ≤ n → Contains (range_with_len 1 n) serial
+in-range n serial some few =
+    let same : 1 + (serial - 1) ≡ serial = omega (arith, some) in (
+      serial - 1,
+      omega (arith, length-range_with_len 1 n, some, few),
+      subst (λ d. get_or (range_with_len 1 n) (serial - 1) d ≡ d) same (range-from 1 n (serial - 1) (omega (arith, some, few))),
+    )

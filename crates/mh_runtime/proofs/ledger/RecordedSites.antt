@@ -4,12 +4,17 @@ use Rattle.std.specs.Prelude.{option_map, slice_get}
 use Rattle.std.specs.Option.{option_flatten}
 use Rattle.std.proofs.lemmas.Bool.{cases_eq}
 use Rattle.std.proofs.lemmas.Option.{slice_get_within}
-use Rattle.mh_jobs.specs.Given.{Given}
+use Rattle.mh_cells.specs.Values.{value_at}
+use Rattle.mh_jobs.specs.Given.{Given, under}
+use Rattle.mh_link.specs.Linked.{Linked}
+use Rattle.mh_attempt.specs.Linkage.{HasFound, LinkageView, own_given}
 use Rattle.mh_report.specs.declared.table.Recorded.{Recorded}
-use Rattle.mh_report.specs.Recorded.{recorded, recorded_at, recorded_from, serials_of}
+use Rattle.mh_report.specs.Recorded.{recorded, recorded_at, recorded_from, serials_of, shown_of}
 use Rattle.mh_report.specs.Results.{Serials, serial_at}
 use Rattle.mh_runtime.specs.Attempts.{AreRecorded, HasRecorded}
-use Rattle.mh_runtime.specs.Passes.{LinkPass}
+use Rattle.mh_runtime.specs.Passes.{IsLinkageOf, LinkPass}
+use Rattle.mh_runtime.specs.Values.{AtLinks}
+use Rattle.mh_runtime.proofs.constants.Agreeing.{linkage-same}
 
 module _ (given : Given) where
   -- what is recorded from a site on, one site after the other
@@ -45,6 +50,19 @@ module _ (given : Given) where
 
   pub serials-recorded : (table : Serials) → serials_of (recorded given table) ≡ table
   serials-recorded table = serials-from 0 table
+
+-- what is recorded at a site by the attempt of the linkage that is learnt there
+pub entry-found : (given : Given) (links : LinkPass) (site : ℕ) (l : LinkageView) (r : Recorded) → IsLinkageOf links.linked site l →
+    value_at links.linkages site ≡ Some l → slice_get given.jobs l.job.site ≡ Some l.job → HasFound l →
+    r ≡ recorded_at (own_given l given) l.job.site l.serial →
+    AtLinks given links (λ g. Some r ≡ option_map (recorded_at g site) (serial_at links.linked site))
+entry-found given links site l r of value named found is known agrees =
+    ap (λ e. Some e)
+    (is
+    ∙ (ap (λ (x : Linked). record { serial = l.serial; shown = shown_of given.leaves x })
+    (linkage-same given known l.job.site l named found (agrees.found site l value))
+    ∙ ap (λ k. recorded_at (under known given) k l.serial) of.0))
+    ∙ ap (option_map (recorded_at (under known given) site)) (sym of.1)
 
 -- ---- the serials of recorded attempts, at their sites
 

@@ -12,14 +12,15 @@ use Rattle.mh_runtime.specs.Runs.{IsStopOn}
 use Rattle.mh_runtime.specs.RunStops.{IsStopBy}
 use Rattle.mh_runtime.specs.Stops.{error_of, outside}
 
-pub outside_joined : {A J : Type 0} (joined : Joined J) (r : Result A Stop) → IsErrAnd r (λ x. x ≡ outside) → IfErr r (StopsJoined joined)
-outside_joined joined (Ok a) is = tt
-outside_joined joined (Err stop) is = inl is
+pub outside-joined : {A J : Type 0} (given : Given) (joined : Joined J) (r : Result A Stop) → IsErrAnd r (λ x. x ≡ outside) →
+    IfErr r (StopsJoined given joined)
+outside-joined given joined (Ok a) is = tt
+outside-joined given joined (Err stop) is = inl is
 
-pub outside_on : {A J : Type 0} (given : Given) (base : Pass J) (plan : List (List Call)) (r : Result A Stop) → IsErrAnd r (λ x. x ≡ outside) →
+pub outside-on : {A J : Type 0} (given : Given) (base : Pass J) (plan : List (List Call)) (r : Result A Stop) → IsErrAnd r (λ x. x ≡ outside) →
     IfErr r (IsStopOn given base plan)
-outside_on given base plan (Ok a) is = tt
-outside_on given base plan (Err stop) is = inl is
+outside-on given base plan (Ok a) is = tt
+outside-on given base plan (Err stop) is = inl is
 
 pub outside-by : {A : Type 0} (given : Given) (workers : ℕ) (plan : List (List Call)) (r : Result A Stop) → IsErrAnd r (λ x. x ≡ outside) →
     IfErr r (IsStopBy given workers plan)
@@ -33,6 +34,12 @@ outside-full {A = A} P (Err stop) is = subst (λ (s : Stop). IfFull {A = A} (err
 pub outside-types : {A : Type 0} (P : ℕ → Type 0) (r : Result A Stop) → IsErrAnd r (λ x. x ≡ outside) → IfTypesFull (error_of r) P
 outside-types P (Ok a) is = tt
 outside-types {A = A} P (Err stop) is = subst (λ (s : Stop). IfTypesFull {A = A} (error_of (Err s)) P) (sym is) tt
+
+-- what is reported of the joined passes of a run
+pub ruleset outside_report = (outside-joined)
+
+-- and of threads whose passes are split off one
+pub ruleset outside_pass = (outside-on)
 
 -- what a run reports
 pub ruleset outside_steps = (outside-by, outside-full, outside-types)

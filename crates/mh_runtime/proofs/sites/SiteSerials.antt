@@ -11,10 +11,10 @@ use Rattle.mh_cells.specs.Values.{Finds, Keeps, KnownView, Puts, nothing_of, val
 use Rattle.mh_cells.proofs.PlacedValues.{flatten-map}
 use Rattle.mh_attempt.specs.Linkage.{LinkageView}
 use Rattle.mh_report.specs.Results.{Serials, serial_at}
-use Rattle.mh_runtime.specs.Passes.{FindsLinkage, HasSerials, PutsLinkage, linked_by, serial_of, site_of}
+use Rattle.mh_runtime.specs.Passes.{FindsLinkage, FindsValue, HasSerials, PutsLinkage, PutsValue, linked_by, serial_of, site_of}
 
 -- the serial at a site is that of the linkage that was learnt
-serial-at : (known : KnownView LinkageView) (site : ℕ) → serial_at (linked_by known) site ≡ option_map serial_of (value_at known.values site)
+pub serial-at : (known : KnownView LinkageView) (site : ℕ) → serial_at (linked_by known) site ≡ option_map serial_of (value_at known.values site)
 serial-at known site = ap option_flatten (slice_get-map (option_map serial_of) known.values site) ∙ flatten-map serial_of (slice_get known.values site)
 
 -- there is a serial, or none, for each site
@@ -33,6 +33,17 @@ pub puts-linkage : (known : KnownView LinkageView) (ours : LinkageView) (r : Res
 puts-linkage known ours (Ok (Mine l)) puts = (puts.0, finds-linkage known ours.job.site (Some l) puts.1)
 puts-linkage known ours (Ok (Theirs l back)) puts = (puts.0, finds-linkage known ours.job.site (Some l) puts.1)
 puts-linkage known ours (Err back) puts = puts
+
+pub finds-value : (known : KnownView LinkageView) (site : ℕ) (found : Option (Bor LinkageView)) → Finds site_of known.values site found →
+    FindsValue known.values site found
+finds-value known site None none = tt
+finds-value known site (Some l) is = is.0
+
+pub puts-value : (known : KnownView LinkageView) (ours : LinkageView) (r : Result (Put LinkageView) LinkageView) →
+    Puts site_of known.values ours.job.site ours r → PutsValue known.values ours.job.site r
+puts-value known ours (Ok (Mine l)) puts = puts.1.0
+puts-value known ours (Ok (Theirs l back)) puts = puts.1.0
+puts-value known ours (Err back) puts = tt
 
 -- what was learnt stays
 pub keeps-serials : (old new : KnownView LinkageView) → Keeps old.values new.values → HasSerials (linked_by old) (linked_by new)

@@ -2,6 +2,7 @@
 use Rattle.std.proofs.Common.{◌≡◌, refl, sym, ◌∙◌, ap, subst, ℕ, ◌+◌, ◌≤◌, List, [], ◌++◌, append-nil, append_assoc, None, Some, arith}
 use Rattle.std.specs.Prelude.{IsSome, Option}
 use Rattle.std.proofs.lemmas.List.Elements.{All-append, All-nil, All-weaker}
+use Rattle.mh_condy.proofs.Drawing.{on-both, on-none}
 use Rattle.mh_report.specs.declared.attempt.Attempt.{Attempt}
 use Rattle.mh_report.specs.Results.{Serials, serial_at}
 use Rattle.mh_runtime.specs.Attempts.{AreLinked, AttemptsMore, GoesOnLinking, IsThreadRun}
@@ -36,7 +37,15 @@ unlearnt-before a b site has none = by (serial_at a site) refl
 -- ---- steps
 
 pub links-none : (pass : LinkPass) (n : ℕ) → GoesOnLinking n pass pass
-links-none pass n = record { linker = refl; thread = refl; linked = serials-self pass.linked; room = omega arith; whole = refl }
+links-none pass n = record {
+  linker = refl;
+  thread = refl;
+  linked = serials-self pass.linked;
+  room = omega arith;
+  whole = refl;
+  linkages = λ site l at. at;
+  constants = on-none pass.constants;
+}
 
 pub links-both : (m n : ℕ) (p q r : LinkPass) → GoesOnLinking m p q → GoesOnLinking n q r → GoesOnLinking (m + n) p r
 links-both m n p q r x y = record {
@@ -45,12 +54,21 @@ links-both m n p q r x y = record {
   linked = serials-both p.linked q.linked r.linked x.linked y.linked;
   room = omega (arith, x.room, y.room);
   whole = y.whole ∙ x.whole;
+  linkages = λ site l at. y.linkages site l (x.linkages site l at);
+  constants = on-both p.constants q.constants r.constants x.constants y.constants;
 }
 
 -- where fewer serials are drawn, at most so many are
 pub links-fewer : (m n : ℕ) (p q : LinkPass) → m ≤ n → GoesOnLinking m p q → GoesOnLinking n p q
-links-fewer m n p q few x =
-    record { linker = x.linker; thread = x.thread; linked = x.linked; room = let room = x.room in omega (arith, few, room); whole = x.whole }
+links-fewer m n p q few x = record {
+  linker = x.linker;
+  thread = x.thread;
+  linked = x.linked;
+  room = let room = x.room in omega (arith, few, room);
+  whole = x.whole;
+  linkages = x.linkages;
+  constants = x.constants;
+}
 
 pub attempts-none : (pass : LinkPass) → AttemptsMore [] pass pass
 attempts-none pass sites linked run = subst (λ s. IsThreadRun s pass) (sym (append-nil sites)) run

@@ -1,12 +1,12 @@
 -- What a seat holds once a linkage is recorded, and once seats are joined.
-use Rattle.std.proofs.Common.{◌≡◌, sym, ◌∙◌, ap, subst, ◌+◌, Bool, List, [], ◌∷◌, ◌++◌, length, arith}
+use Rattle.std.proofs.Common.{◌≡◌, refl, sym, ◌∙◌, ap, subst, ◌+◌, ◌≤◌, Bool, List, [], ◌∷◌, ◌++◌, length, arith}
 use Rattle.std.proofs.lemmas.Grind.{flat_map-append}
 use Rattle.mh_values.specs.declared.types.MethodTy.{MethodTy}
 use Rattle.mh_values.specs.Same.{is_same_method_type}
 use Rattle.mh_intern.specs.declared.holding.Entry.{Entry}
 use Rattle.mh_intern.specs.Exchanges.{Exchanges}
 use Rattle.mh_intern.specs.Held.{on_type, times_type}
-use Rattle.mh_intern.specs.Views.{SeatView, joined_seats}
+use Rattle.mh_intern.specs.Views.{HoldView, SeatView, joined_seats}
 use Rattle.mh_intern.proofs.Measures.{count_append}
 use Rattle.mh_handle.specs.declared.work.Work.{Work}
 use Rattle.mh_jobs.specs.Given.{Given}
@@ -15,7 +15,7 @@ use Rattle.mh_link.specs.Sites.{linked_at}
 use Rattle.mh_attempt.specs.Linkage.{HasTypes, LinkageView}
 use Rattle.mh_attempt.specs.Several.{Adds}
 use Rattle.mh_report.specs.declared.attempt.Attempt.{Attempt}
-use Rattle.mh_runtime.specs.Linking.{HoldsInstead, HoldsJust, KeepsOthers, Records, types_held}
+use Rattle.mh_runtime.specs.Linking.{HoldsInstead, HoldsJust, KeepsOthers, Records, StaysWhole, types_held}
 use Rattle.mh_runtime.proofs.types.SeatTypes.{exchanged-types}
 
 -- ---- recording
@@ -31,6 +31,25 @@ attempt-keeps given l before after old mid new adds records = record {
       let r = records.types t in
       omega (arith, e, r);
 }
+
+-- the seat stays whole then
+pub attempt-whole : (held : List HoldView) (old mid new : Work) → Adds held old mid → StaysWhole mid.seat.now new.seat.now →
+    StaysWhole old.seat.now new.seat.now
+attempt-whole held old mid new adds stays =
+    record { table = stays.table ∙ adds.1.table; whole = let whole = stays.whole in omega (arith, whole, adds.1.many, adds.1.room) }
+
+-- so it does where holds were handed back
+pub back-whole : (gone : List HoldView) (old new : SeatView) → Exchanges [] gone [] old new → StaysWhole old new
+back-whole gone old new x = record { table = x.table; whole = omega (arith, x.many, x.room) }
+
+pub back-few : (gone : List HoldView) (old new : SeatView) → Exchanges [] gone [] old new → old.room ≤ new.room
+back-few gone old new x = omega (arith, x.room)
+
+pub still-whole : (seat : SeatView) → StaysWhole seat seat
+still-whole seat = record { table = refl; whole = refl }
+
+pub whole-both : (a b c : SeatView) → StaysWhole a b → StaysWhole b c → StaysWhole a c
+whole-both a b c x y = record { table = y.table ∙ x.table; whole = y.whole ∙ x.whole }
 
 -- a linkage was handed back
 pub records-none : (given : Given) (l : LinkageView) (recorded : List Attempt) (old new : SeatView) → Exchanges [] l.held [] old new →

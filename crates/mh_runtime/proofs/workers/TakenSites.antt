@@ -11,6 +11,7 @@ use Rattle.std.proofs.lemmas.List.Sums.{sum_by-append}
 use Rattle.std.proofs.lemmas.Option.{slice_get_within}
 use Rattle.mh_seats.specs.Room.{limit, times}
 use Rattle.mh_tickets.specs.Draws.{EachOnce}
+use Rattle.mh_condy.specs.Passes.{TableView}
 use Rattle.mh_jobs.specs.Given.{Given}
 use Rattle.mh_prelink.specs.Results.{all_taken}
 use Rattle.mh_report.specs.declared.attempt.Attempt.{Attempt}
@@ -20,8 +21,8 @@ use Rattle.mh_runtime.specs.declared.prelinking.Prelinked.{Prelinked}
 use Rattle.mh_runtime.specs.Attempts.{AreLinked, IsThreadRun, sites_of}
 use Rattle.mh_runtime.specs.Ledger.{IsOfWorker}
 use Rattle.mh_runtime.specs.Passes.{HasSerials}
-use Rattle.mh_runtime.specs.Prelinked.{IsPrelinked, WorkersEnd}
-use Rattle.mh_runtime.specs.Workers.{KnowsSite, Worker}
+use Rattle.mh_runtime.specs.Prelinked.{IsPrelinked, WorkersEndAnyhow}
+use Rattle.mh_runtime.specs.Workers.{KnowsSite, Worker, first_of}
 use Rattle.mh_runtime.proofs.ledger.Numbers.{contains-map, flat-same, map-flat, number-within}
 use Rattle.mh_runtime.proofs.ledger.Parts.{in-part, part-in}
 use Rattle.mh_runtime.proofs.ledger.Places.{place-contains}
@@ -150,8 +151,8 @@ module _ {J : Type 0} where
         attempted-once ws (λ n v is. runs (suc n) v is) x,
       )
 
-module _ {J : Type 0} (given : Given) (linker : Linker J) (threads workers : ℕ) (state : Prelinked J)
-    (is : IsPrelinked given linker threads workers state) where
+module _ {J : Type 0} (given : Given) (linker : Linker J) (table : TableView) (threads workers : ℕ) (state : Prelinked J)
+    (is : IsPrelinked given linker table threads workers state) where
   abbrev attempts : List Attempt
   attempts = state.pass.links.attempts
 
@@ -236,7 +237,7 @@ module _ {J : Type 0} (given : Given) (linker : Linker J) (threads workers : ℕ
   all-known none site within =
       let taken : Contains (all_taken is.all) site = times-contains site (all_taken is.all) (let one = is.every none site within in omega (arith, one)) in
       let found = in-part (λ (w : Worker J). w.taken) is.all site taken in
-      let ends = subst (WorkersEnd given is.all state.pass) none is.gathered.ends in
+      let ends = subst (WorkersEndAnyhow given (first_of given linker table).links is.all state.pass) none is.gathered.ends in
       let there : Contains is.all found.1 = place-contains is.all found.0 found.1 found.2 in
       let linked = All-contains (λ (w : Worker J). AreLinked w.pass.links.linked w.taken) is.all found.1 ends.0 there in
       knows-still site found.1.pass state.pass

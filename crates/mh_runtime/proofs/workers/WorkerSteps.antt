@@ -1,12 +1,18 @@
 -- What a worker leaves of its pass, site after site.
-use Rattle.std.proofs.Common.{◌≡◌, refl, sym, ◌∙◌, ap, subst, ℕ, ◌+◌, List, [], ◌∷◌, ◌++◌, length, length-append, Option, None, Some, Ok, Err, arith}
-use Rattle.std.specs.Prelude.{IsSome, OnOk}
+use Rattle.std.proofs.Common.{◌≡◌, refl, sym, ◌∙◌, ap, subst, ℕ, ◌+◌, List, [], ◌∷◌, ◌++◌, length, length-append, Option, None, Some, Result, Ok, Err, arith}
+use Rattle.std.specs.Prelude.{IsErrAnd, IsSome, MatchResult, OnOk}
+use Rattle.std.proofs.lemmas.Bool.{both_ways}
 use Rattle.std.proofs.lemmas.List.Elements.{All-nil, All-push}
 use denote.Ref.{Bor}
 use Rattle.mh_handle.specs.Joins as form_joins
 use Rattle.mh_handle.specs.Passes.{PassView}
 use Rattle.mh_intern.specs.Views.{SeatView}
-use Rattle.mh_jobs.specs.Given.{Given}
+use Rattle.mh_condy.specs.Passes.{TableView}
+use Rattle.mh_condy.specs.Resolving.{GoesOnResolving}
+use Rattle.mh_condy.specs.Trails.{AreOwnNodes, trail_of}
+use Rattle.mh_jobs.specs.Given.{Found, Given, under}
+use Rattle.mh_link.specs.Named.{run_of}
+use Rattle.mh_link.specs.Places.{is_in}
 use Rattle.mh_attempt.specs.declared.error.WorkError.{WorkError}
 use Rattle.mh_attempt.specs.declared.error.WorkError.TheVariants.{NoMemory, FormsFull, TypesFull}
 use Rattle.mh_attempt.specs.Asked.{HasAsked}
@@ -18,22 +24,27 @@ use Rattle.mh_report.specs.Results.{serial_at}
 use Rattle.mh_seats.specs.Room.{limit}
 use Rattle.mh_runtime.specs.declared.linker.Linker.{Linker}
 use Rattle.mh_runtime.specs.declared.pass.Pass.{Pass}
-use Rattle.mh_runtime.specs.Asking.{RunsOn, RunsOnTypes, WasAsked, run_edits, run_types}
-use Rattle.mh_runtime.specs.Attempts.{AreLinked, IsThreadRun}
+use Rattle.mh_runtime.specs.Asking.{HasAskedOn, RunsOn, RunsOnTypes, WasAsked, run_edits, run_types}
+use Rattle.mh_runtime.specs.Attempts.{AreLinked, AsksMore, DrawsOnce, GoesOnLinking, IsThreadRun, ResolvesForAttempts}
 use Rattle.mh_runtime.specs.Bases.{Base, base_of, pass_of}
+use Rattle.mh_runtime.specs.Lanes.{HasResolved}
 use Rattle.mh_runtime.specs.Linkers.{GoesOnCalling, Resolves}
 use Rattle.mh_runtime.specs.Linking.{HoldsInstead, HoldsRecorded}
 use Rattle.mh_runtime.specs.Passes.{HasSerials, LinkPass, split_pass, split_room}
-use Rattle.mh_runtime.specs.Prelinked.{EndsWork, HasTaken}
+use Rattle.mh_runtime.specs.Prelinked.{EndsTaken, EndsWork, HasTaken}
 use Rattle.mh_runtime.specs.RunStops.{HasWorked}
 use Rattle.mh_runtime.specs.Stops.{ending}
 use Rattle.mh_runtime.specs.Workers.{IsSplitFor, KnowsSite, LinksSite, LinksSites, Worker, first_of}
+use Rattle.mh_runtime.specs.Values.{Agrees}
+use Rattle.mh_runtime.proofs.constants.Agreeing.{agrees-linked}
 use Rattle.mh_runtime.proofs.asking.AskedAnswers.{asked-on}
-use Rattle.mh_runtime.proofs.lanes.LaneEnds.{asked-split, goes-any, no-slot, run-split, within-split}
-use Rattle.mh_runtime.proofs.types.RecordedTypes.{just-recorded}
+use Rattle.mh_runtime.proofs.constants.Asking.{asks-own, asks-then, drawn-both, drawn-none, quiet-both}
+use Rattle.mh_runtime.proofs.asking.Lacking.{lacks-any}
+use Rattle.mh_runtime.proofs.lanes.LaneEnds.{asked-split, goes-any, run-split, within-split}
+use Rattle.mh_runtime.proofs.types.RecordedTypes.{just-recorded, still-whole, whole-both}
 use Rattle.mh_runtime.proofs.asking.RunSteps.{runs-both, runs-none, stops-second}
 use Rattle.mh_runtime.proofs.asking.SeatAsked.{on-both, on-none}
-use Rattle.mh_runtime.proofs.sites.ThreadSteps.{attempts-both, attempts-none, linked-both, links-both, links-none}
+use Rattle.mh_runtime.proofs.sites.ThreadSteps.{attempts-both, attempts-none, linked-both, links-both, links-none, unlearnt-both, unlearnt-same}
 use Rattle.mh_runtime.proofs.lanes.WholeJoin.{none-asked}
 use Rattle.mh_intern.specs.Held.{times_type}
 
@@ -70,14 +81,24 @@ holds-both given a b c p q r x y = record {
 -- ---- sites
 
 module _ {J : Type 0} (given : Given) where
-  no-sites : (pass : Pass J) → LinksSites given [] None pass pass
-  no-sites pass = record {
+  -- each node that the pass has put is what it should be
+  abbrev HasOwnNodes : Pass J → Type 0
+  HasOwnNodes pass = AreOwnNodes (run_of given) (trail_of pass.links.constants)
+
+  no-sites : (pass : Pass J) → HasOwnNodes pass → LinksSites given [] None pass pass
+  no-sites pass own = record {
     goes_on = goes-none pass;
     linked = All-nil (λ site. IsSome (serial_at pass.links.linked site));
     attempts = attempts-none pass.links;
-    types = holds-none given pass.links.recorded pass.types;
-    runs = runs-none given pass.links.attempts pass.forms;
-    asked = on-none given pass.links.attempts pass.types;
+    unlearnt = unlearnt-same pass.links pass.links refl;
+    asks = asks-own given pass.links own;
+    drawn = drawn-none pass.links;
+    quiet = λ same. refl;
+    seat = still-whole pass.types;
+    types = λ known agrees. holds-none (under known given) pass.links.recorded pass.types;
+    lacks = tt;
+    runs = λ known agrees. runs-none (under known given) pass.links.attempts pass.forms;
+    asked = λ known agrees. on-none (under known given) pass.links.attempts pass.types;
   }
 
   -- more sites were linked after some
@@ -87,42 +108,59 @@ module _ {J : Type 0} (given : Given) where
     more-linked None has linked = linked-both q.links.linked r.links.linked xs ys has x.linked linked
     more-linked (Some e) has linked = tt
 
-    more-runs : (stop : Option WorkError) → RunsOn given q.links.attempts r.links.attempts [] q.forms r.forms (ending stop) →
-        RunsOn given p.links.attempts r.links.attempts [] p.forms r.forms (ending stop)
-    more-runs None runs = runs-both given [] [] p.links.attempts q.links.attempts r.links.attempts p.forms q.forms r.forms x.runs runs
-    more-runs (Some e) runs =
-        stops-second given [] [] p.links.attempts q.links.attempts r.links.attempts p.forms q.forms r.forms x.runs [] e runs
+    module _ (known : Found) (agrees : Agrees known q.links) where
+      abbrev g : Given
+      g = under known given
 
-    more-asked : (stop : Option WorkError) → RunsOnTypes given q.links.attempts r.links.attempts [] q.types r.types (ending stop) →
-        RunsOnTypes given p.links.attempts r.links.attempts [] p.types r.types (ending stop)
-    more-asked None asked = on-both given [] [] p.links.attempts q.links.attempts r.links.attempts p.types q.types r.types x.asked asked
-    more-asked (Some NoMemory) asked = on-both given [] [] p.links.attempts q.links.attempts r.links.attempts p.types q.types r.types x.asked asked
-    more-asked (Some (FormsFull drawn)) asked =
-        on-both given [] [] p.links.attempts q.links.attempts r.links.attempts p.types q.types r.types x.asked asked
-    more-asked (Some (TypesFull bucket)) asked =
-        (on-both given [] [] p.links.attempts q.links.attempts r.links.attempts p.types q.types r.types x.asked asked.0, asked.1)
+      more-runs : (stop : Option WorkError) → RunsOn g q.links.attempts r.links.attempts [] q.forms r.forms (ending stop) →
+          RunsOn g p.links.attempts r.links.attempts [] p.forms r.forms (ending stop)
+      more-runs None runs = runs-both g [] [] p.links.attempts q.links.attempts r.links.attempts p.forms q.forms r.forms (x.runs known agrees) runs
+      more-runs (Some e) runs =
+          stops-second g [] [] p.links.attempts q.links.attempts r.links.attempts p.forms q.forms r.forms (x.runs known agrees) [] e runs
+
+      asked-both : HasAskedOn g q.links.attempts r.links.attempts [] q.types r.types → HasAskedOn g p.links.attempts r.links.attempts [] p.types r.types
+      asked-both asked = on-both g [] [] p.links.attempts q.links.attempts r.links.attempts p.types q.types r.types (x.asked known agrees) asked
+
+      more-asked : (stop : Option WorkError) → RunsOnTypes g q.links.attempts r.links.attempts [] q.types r.types (ending stop) →
+          RunsOnTypes g p.links.attempts r.links.attempts [] p.types r.types (ending stop)
+      more-asked None asked = asked-both asked
+      more-asked (Some NoMemory) asked = asked-both asked
+      more-asked (Some (FormsFull drawn)) asked = asked-both asked
+      more-asked (Some (TypesFull bucket)) asked = (asked-both asked.0, asked.1)
 
     more-sites : (stop : Option WorkError) → LinksSites given ys stop q r → LinksSites given (xs ++ ys) stop p r
-    more-sites stop y = record {
-      goes_on = subst (λ n. GoesOnCalling n p r) (sym (length-append xs ys)) (goes-both (length xs) (length ys) p q r x.goes_on y.goes_on);
-      linked = more-linked stop y.goes_on.links.linked y.linked;
-      attempts = attempts-both xs ys p.links q.links r.links x.goes_on.links.linked x.linked x.attempts y.attempts;
-      types = holds-both given p.links.recorded q.links.recorded r.links.recorded p.types q.types r.types x.types y.types;
-      runs = more-runs stop y.runs;
-      asked = more-asked stop y.asked;
-    }
+    more-sites stop y =
+        let earlier : (known : Found) → Agrees known r.links → Agrees known q.links =
+        λ known agrees. agrees-linked (length ys) known q.links r.links y.goes_on.links agrees in
+        record {
+          goes_on = subst (λ n. GoesOnCalling n p r) (sym (length-append xs ys)) (goes-both (length xs) (length ys) p q r x.goes_on y.goes_on);
+          linked = more-linked stop y.goes_on.links.linked y.linked;
+          attempts = attempts-both xs ys p.links q.links r.links x.goes_on.links.linked x.linked x.attempts y.attempts;
+          unlearnt = unlearnt-both p.links q.links r.links x.goes_on.links.linked x.unlearnt y.unlearnt;
+          asks = asks-then given p.links q.links r.links (ending stop) x.asks y.asks;
+          drawn = drawn-both given p.links q.links r.links x.asks y.drawn;
+          quiet = quiet-both p.links q.links r.links x.unlearnt y.unlearnt x.quiet y.quiet;
+          seat = whole-both p.types q.types r.types x.seat y.seat;
+          types = λ known agrees.
+              holds-both (under known given) p.links.recorded q.links.recorded r.links.recorded p.types q.types r.types
+              (x.types known (earlier known agrees)) (y.types known agrees);
+          lacks = y.lacks;
+          runs = λ known agrees. more-runs known (earlier known agrees) stop (y.runs known agrees);
+          asked = λ known agrees. more-asked known (earlier known agrees) stop (y.asked known agrees);
+        }
 
   -- one step for each site
-  went-sites : (xs : List ℕ) (p q : Pass J) → Went {P = Pass J} {E = WorkError} (LinksSite given) p xs q → LinksSites given xs None p q
-  went-sites [] p q same = subst (LinksSites given [] None p) same (no-sites p)
-  went-sites (x ∷ xs) p q went = more-sites (x ∷ []) xs p went.0 q went.1 None (went-sites xs went.0 q went.2)
+  went-sites : (xs : List ℕ) (p q : Pass J) → HasOwnNodes p → Went {P = Pass J} {E = WorkError} (LinksSite given) p xs q → LinksSites given xs None p q
+  went-sites [] p q own same = subst (LinksSites given [] None p) same (no-sites p own)
+  went-sites (x ∷ xs) p q own went =
+      more-sites (x ∷ []) xs p went.0 q went.1 None (went-sites xs went.0 q went.1.asks.goes.sound went.2)
 
-  until-sites : (xs : List ℕ) (stop : Option WorkError) (p q : Pass J) → WentUntil {P = Pass J} {E = WorkError} (LinksSite given) p xs stop q →
-      LinksSites given xs stop p q
-  until-sites xs None p q went = went-sites xs p q went
-  until-sites xs (Some e) p q went =
+  until-sites : (xs : List ℕ) (stop : Option WorkError) (p q : Pass J) → HasOwnNodes p →
+      WentUntil {P = Pass J} {E = WorkError} (LinksSite given) p xs stop q → LinksSites given xs stop p q
+  until-sites xs None p q own went = went-sites xs p q own went
+  until-sites xs (Some e) p q own went =
       subst (λ zs. LinksSites given zs (Some e) p q) (sym went.3)
-      (more-sites went.0 (went.1 ∷ []) p went.2 q (went-sites went.0 p went.2 went.4) (Some e) went.5)
+      (more-sites went.0 (went.1 ∷ []) p went.2 q (went-sites went.0 p went.2 own went.4) (Some e) went.5)
 
   -- ---- one site
 
@@ -135,31 +173,50 @@ module _ {J : Type 0} (given : Given) where
       goes_on = made.goes_on;
       linked = All-push (λ k. IsSome (serial_at new.links.linked k)) [] site (All-nil (λ k. IsSome (serial_at new.links.linked k))) (site-known l made);
       attempts = made.attempts;
+      unlearnt = made.unlearnt;
+      asks = made.asks;
+      drawn = made.drawn;
+      quiet = made.quiet;
+      seat = made.seat;
       types = made.types;
+      lacks = tt;
       runs = made.runs;
       asked = made.asked;
     }
 
     -- whichever the answer would have been
-    types-stopped : (e : WorkError) → RunsOnTypes {A = Bor LinkageView} given old.links.attempts new.links.attempts [] old.types new.types (Err e) →
-        RunsOnTypes {A = Unit {0}} given old.links.attempts new.links.attempts [] old.types new.types (Err e)
-    types-stopped NoMemory asked = asked
-    types-stopped (FormsFull drawn) asked = asked
-    types-stopped (TypesFull bucket) asked = asked
+    types-stopped : (g : Given) (e : WorkError) →
+        RunsOnTypes {A = Bor LinkageView} g old.links.attempts new.links.attempts [] old.types new.types (Err e) →
+        RunsOnTypes {A = Unit {0}} g old.links.attempts new.links.attempts [] old.types new.types (Err e)
+    types-stopped g NoMemory asked = asked
+    types-stopped g (FormsFull drawn) asked = asked
+    types-stopped g (TypesFull bucket) asked = asked
 
     site-stopped : (e : WorkError) → Resolves given site old new (Err e) → LinksSite given old site (Some e) new
     site-stopped e made = record {
       goes_on = made.goes_on;
       linked = tt;
       attempts = made.attempts;
+      unlearnt = made.unlearnt;
+      asks = tt;
+      drawn = made.drawn;
+      quiet = made.quiet;
+      seat = made.seat;
       types = made.types;
+      lacks = lacks-any (Bor LinkageView) (Unit {0}) new.forms new.types e made.lacks;
       runs = made.runs;
-      asked = types-stopped e made.asked;
+      asked = λ known agrees. types-stopped (under known given) e (made.asked known agrees);
     }
 
     -- and its error is handed on
-    pub stop-handed : (e f : WorkError) → f ≡ e → Resolves given site old new (Err e) → LinksSite given old site (Some f) new
+    stop-handed : (e f : WorkError) → f ≡ e → Resolves given site old new (Err e) → LinksSite given old site (Some f) new
     stop-handed e f same made = subst (λ x. LinksSite given old site (Some x) new) (sym same) (site-stopped e made)
+
+    -- so it is for what `link` answers
+    pub link-handed : (e : WorkError) (r : Result (Unit {0}) WorkError) → IsErrAnd r (λ x. x ≡ e) → Resolves given site old new (Err e) →
+        MatchResult r (λ x. LinksSite given old site None new) (λ f. LinksSite given old site (Some f) new)
+    link-handed e (Ok x) is made = absurd is
+    link-handed e (Err f) is made = stop-handed e f is made
 
 -- what was known of another site is known still
 pub knows-still : {J : Type 0} (site : ℕ) (old new : Pass J) → HasSerials old.links.linked new.links.linked → KnowsSite old site → KnowsSite new site
@@ -181,47 +238,68 @@ links-any given sites stop old new made = record {
   goes_on = goes-any (length sites) old new made.goes_on;
   linked = made.linked;
   attempts = made.attempts;
+  unlearnt = made.unlearnt;
+  asks = made.asks;
+  drawn = made.drawn;
+  quiet = made.quiet;
+  seat = made.seat;
   types = made.types;
+  lacks = made.lacks;
   runs = made.runs;
   asked = made.asked;
 }
 
 -- ---- a worker, whose pass was split off the first pass
 
-module _ {J : Type 0} (given : Given) (linker : Linker J) (w : Worker J) where
+-- what is known of it by how it ended
+module _ {J : Type 0} (given : Given) (linker : Linker J) (table : TableView) (w : Worker J) where
   -- no form was asked for before
-  none-before : HasAsked (run_edits given [] []) (form_joins.split_pass (first_of given linker).forms)
-  none-before = asked-split given [] (first_of given linker).forms (none-asked linker.forms.now limit)
+  none-before : HasAsked (run_edits given [] []) (form_joins.split_pass (first_of given linker table).forms)
+  none-before = asked-split given [] (first_of given linker table).forms (none-asked linker.forms.now limit)
 
-  ends-work : (stop : Option WorkError) → OnOk (ending stop) (AreLinked w.pass.links.linked w.taken) →
-      RunsOn given [] w.pass.links.attempts [] (form_joins.split_pass (first_of given linker).forms) w.pass.forms (ending stop) → EndsWork given w stop
-  ends-work None linked runs =
+  ends-work : (stop : Option WorkError) →
+      RunsOn given [] w.pass.links.attempts [] (form_joins.split_pass (first_of given linker table).forms) w.pass.forms (ending stop) → EndsWork given w stop
+  ends-work None runs =
       let asked : HasAsked (run_edits given w.pass.links.attempts []) w.pass.forms = runs.asked [] none-before in (
         asked-drawn split_room (run_edits given w.pass.links.attempts []) w.pass.forms asked
-            (runs.within split_room (within-split (first_of given linker).forms)),
+            (runs.within split_room (within-split (first_of given linker table).forms)),
         asked,
-        linked,
       )
-  ends-work (Some (FormsFull drawn)) linked runs =
-      (runs.0 split_room (within-split (first_of given linker).forms) [] none-before, runs.1)
-  ends-work (Some (TypesFull bucket)) linked runs = runs split_room (within-split (first_of given linker).forms) [] none-before
-  ends-work (Some NoMemory) linked runs = tt
+  ends-work (Some (FormsFull drawn)) runs = runs.0 split_room (within-split (first_of given linker table).forms) [] none-before
+  ends-work (Some (TypesFull bucket)) runs = runs split_room (within-split (first_of given linker table).forms) [] none-before
+  ends-work (Some NoMemory) runs = tt
 
-  module _ (thread : ℕ) (pass : Pass J) (split : IsSplitFor given linker thread pass) (made : LinksSites given w.taken w.stop pass w.pass) where
+ends-taken : {J : Type 0} (given : Given) (base : LinkPass) (w : Worker J) (stop : Option WorkError) →
+    OnOk (ending stop) (AreLinked w.pass.links.linked w.taken) → OnOk (ending stop) (AsksMore given base w.pass.links) → EndsTaken given base w stop
+ends-taken given base w None linked asks = (linked, asks)
+ends-taken given base w (Some e) linked asks = tt
+
+-- a pass that was split off has put no node
+own-split : (given : Given) (base : LinkPass) (thread : ℕ) → AreOwnNodes (run_of given) (trail_of (split_pass thread base).constants)
+own-split given base thread = record {
+  each = λ c node at h. absurd (both_ways (is_in [] c) refl h);
+  there = λ c h. absurd (both_ways (is_in [] c) refl h);
+}
+
+module _ {J : Type 0} (given : Given) (linker : Linker J) (table : TableView) (w : Worker J) where
+  abbrev first : LinkPass
+  first = (first_of given linker table).links
+
+  module _ (thread : ℕ) (pass : Pass J) (split : IsSplitFor given linker table thread pass) (made : LinksSites given w.taken w.stop pass w.pass) where
     fresh : IsThreadRun [] pass.links
-    fresh = subst (IsThreadRun []) (sym split.links) (run-split (first_of given linker).links thread)
+    fresh = subst (IsThreadRun []) (sym split.links) (run-split first thread)
 
-    types-asked : WasAsked (run_types given w.pass.links.attempts []) w.pass.types
-    types-asked =
-        asked-on given pass.links.attempts w.pass.links.attempts [] pass.types w.pass.types (ending w.stop) made.asked []
-        (subst (λ (p : LinkPass). WasAsked (run_types given p.attempts []) pass.types) (sym split.links)
+    types-asked : (known : Found) → Agrees known w.pass.links → WasAsked (run_types (under known given) w.pass.links.attempts []) w.pass.types
+    types-asked known agrees =
+        asked-on (under known given) pass.links.attempts w.pass.links.attempts [] pass.types w.pass.types (ending w.stop) (made.asked known agrees) []
+        (subst (λ (p : LinkPass). WasAsked (run_types (under known given) p.attempts []) pass.types) (sym split.links)
         (λ t none. ap (λ (s : SeatView). times_type t s.asked) split.types_are))
 
     -- with a pass that was split off the first one
-    worked : HasWorked given (base_of (first_of given linker)) thread w.stop
+    worked : HasWorked given (base_of (first_of given linker table)) thread w.stop
     worked =
-        let links : LinkPass = split_pass thread (first_of given linker).links in
-        let forms : PassView = form_joins.split_pass (first_of given linker).forms in
+        let links : LinkPass = split_pass thread first in
+        let forms : PassView = form_joins.split_pass (first_of given linker table).forms in
         let left : Base = base_of w.pass in
         record {
           sites = w.taken;
@@ -232,7 +310,18 @@ module _ {J : Type 0} (given : Given) (linker : Linker J) (w : Worker J) where
               (links-any given w.taken w.stop pass w.pass made)));
         }
 
-    made-work : HasTaken given linker thread w
+    -- it has resolved constants since then
+    resolved : HasResolved first w.pass.links
+    resolved =
+        let thread_is : w.pass.links.thread ≡ thread = made.goes_on.links.thread ∙ ap (λ (p : LinkPass). p.thread) split.links in
+        let same : pass.links ≡ split_pass w.pass.links.thread first = split.links ∙ ap (λ n. split_pass n first) (sym thread_is) in
+        record {
+          goes = subst (λ (p : LinkPass). GoesOnResolving p.constants w.pass.links.constants) same made.goes_on.links.constants;
+          drawn = subst (λ (p : LinkPass). DrawsOnce p w.pass.links) same made.drawn;
+          quiet = subst (λ (p : LinkPass). ResolvesForAttempts p w.pass.links) same made.quiet;
+        }
+
+    made-work : HasTaken given linker table thread w
     made-work =
         let goes = made.goes_on.links in
         let room : pass.links.seat.room + length pass.links.seat.numbers ≡ split_room + 0 =
@@ -240,22 +329,32 @@ module _ {J : Type 0} (given : Given) (linker : Linker J) (w : Worker J) where
         record {
           linker_is = goes.linker ∙ ap (λ (p : LinkPass). p.linker) split.links;
           table_is = made.goes_on.table ∙ ap (λ (p : PassView). p.table) split.forms_are;
-          types_is = made.types.table ∙ ap (λ (s : SeatView). s.table) split.types_are;
+          types_is = made.seat.table ∙ ap (λ (s : SeatView). s.table) split.types_are;
           thread_is = goes.thread ∙ ap (λ (p : LinkPass). p.thread) split.links;
           run = made.attempts [] (All-nil (λ site. IsSome (serial_at pass.links.linked site))) fresh;
           whole = omega (arith, goes.whole, room);
-          types_whole = made.types.whole ∙ ap (λ (s : SeatView). s.room + length s.holds) split.types_are;
-          types_held = just-recorded given w.pass.links.recorded pass.types w.pass.types (ap (λ (s : SeatView). s.holds) split.types_are)
-              (subst (λ (p : LinkPass). HoldsInstead given p.recorded w.pass.links.recorded pass.types w.pass.types) split.links made.types.types);
+          types_whole = made.seat.whole ∙ ap (λ (s : SeatView). s.room + length s.holds) split.types_are;
+          linkages = subst (λ (p : LinkPass). GoesOnLinking (length w.taken) p w.pass.links) split.links goes;
+          types_held = λ known agrees.
+              just-recorded (under known given) w.pass.links.recorded pass.types w.pass.types (ap (λ (s : SeatView). s.holds) split.types_are)
+              (subst (λ (p : LinkPass). HoldsInstead (under known given) p.recorded w.pass.links.recorded pass.types w.pass.types) split.links
+              (made.types known agrees).types);
           types_asked = types-asked;
-          no_slot = no-slot given pass.links.attempts w.pass.links.attempts [] pass.types w.pass.types w.stop made.asked;
+          lacks = made.lacks;
           worked = worked;
-          ends = ends-work w.stop made.linked
-              (subst (λ (p : PassView). RunsOn given [] w.pass.links.attempts [] p w.pass.forms (ending w.stop)) split.forms_are
-              (subst (λ (p : LinkPass). RunsOn given p.attempts w.pass.links.attempts [] pass.forms w.pass.forms (ending w.stop)) split.links made.runs));
+          resolved = resolved;
+          taken = ends-taken given (split_pass thread first) w w.stop made.linked
+              (subst (λ (p : LinkPass). OnOk (ending w.stop) (AsksMore given p w.pass.links)) split.links made.asks);
+          ends = λ known agrees.
+              ends-work (under known given) linker table w w.stop
+              (subst (λ (p : PassView). RunsOn (under known given) [] w.pass.links.attempts [] p w.pass.forms (ending w.stop)) split.forms_are
+              (subst (λ (p : LinkPass). RunsOn (under known given) p.attempts w.pass.links.attempts [] pass.forms w.pass.forms (ending w.stop)) split.links
+              (made.runs known agrees)));
         }
 
   -- what it did
-  pub has-taken : (thread : ℕ) (pass : Pass J) → IsSplitFor given linker thread pass →
-      Did {P = Pass J} {E = WorkError} (LinksSite given) KnowsSite pass w → HasTaken given linker thread w
-  has-taken thread pass split did = made-work thread pass split (until-sites given w.taken w.stop pass w.pass did.went)
+  pub has-taken : (thread : ℕ) (pass : Pass J) → IsSplitFor given linker table thread pass →
+      Did {P = Pass J} {E = WorkError} (LinksSite given) KnowsSite pass w → HasTaken given linker table thread w
+  has-taken thread pass split did =
+      made-work thread pass split (until-sites given w.taken w.stop pass w.pass
+      (subst (λ (p : LinkPass). AreOwnNodes (run_of given) (trail_of p.constants)) (sym split.links) (own-split given first thread)) did.went)

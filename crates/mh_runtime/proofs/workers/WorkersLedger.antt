@@ -1,5 +1,5 @@
 -- The ledger of a run whose call sites workers have linked, and what its threads attempt then: nothing.
-use Rattle.std.proofs.Common.{◌≡◌, refl, sym, ◌∙◌, ap, subst, ℕ, ◌+◌, ◌<◌, ◌≤◌, List, [], ◌∷◌, ◌++◌, append-nil, length, map, Some, None, arith}
+use Rattle.std.proofs.Common.{◌≡◌, refl, sym, ◌∙◌, ap, subst, ℕ, ◌<◌, ◌≤◌, List, [], ◌∷◌, ◌++◌, append-nil, length, map, Some, None, arith}
 use Rattle.std.specs.Prelude.{All, Contains, IsSome, Option, slice_get}
 use Rattle.std.specs.List.{flat_map}
 use Rattle.std.specs.Option.{option_flatten}
@@ -9,7 +9,8 @@ use Rattle.mh_leaf.specs.LeafTable.{LeafTable}
 use Rattle.mh_seats.specs.Room.{times}
 use Rattle.mh_tickets.specs.Draws.{EachOnce}
 use Rattle.mh_jobs.specs.declared.job.Job.{Job}
-use Rattle.mh_jobs.specs.Given.{Given}
+use Rattle.mh_condy.specs.Passes.{TableView}
+use Rattle.mh_jobs.specs.Given.{Found, Given, under}
 use Rattle.mh_plan.specs.declared.call.Call.{Call}
 use Rattle.mh_plan.specs.declared.call.Call.TheVariants.{Exact, Generic, Indy}
 use Rattle.mh_plan.specs.Calls.{AreCallsOf, IsCallOf}
@@ -30,6 +31,7 @@ use Rattle.mh_runtime.specs.Lanes.{AreUnlearnt, passes_of}
 use Rattle.mh_runtime.specs.Ledger.{IsOfWorker, PrelinkedLedger}
 use Rattle.mh_runtime.specs.Prelinked.{IsPrelinked}
 use Rattle.mh_runtime.specs.Report.{TellsRun}
+use Rattle.mh_runtime.specs.Values.{Agrees}
 use Rattle.mh_runtime.specs.Workers.{KnowsSite}
 use Rattle.mh_runtime.proofs.workers.LearntBases.{flat-none, no-attempts, none-made}
 use Rattle.mh_runtime.proofs.ledger.Owners.{thread-of}
@@ -58,14 +60,14 @@ module _ (leaves : LeafTable) (jobs : List Job) (linked : Serials) (known : (sit
 
 -- ---- a run over what workers have left
 
-module _ {J : Type 0} (given : Given) (linker : Linker J) (plan : List (List Call)) (workers : ℕ) (base : Pass J)
-    (is : IsPrelinked given linker (length plan) workers (record { pass = base; stop = None })) (can : AreCallsOf given.leaves given.jobs plan)
+module _ {J : Type 0} (given : Given) (linker : Linker J) (table : TableView) (plan : List (List Call)) (workers : ℕ) (base : Pass J)
+    (is : IsPrelinked given linker table (length plan) workers (record { pass = base; stop = None })) (can : AreCallsOf given.leaves given.jobs plan)
     (lanes : List (Lane J)) (joined : Joined J) (calls_are : calls_of lanes ≡ plan) (so_far : AreJoinedSoFar given base (length lanes) lanes joined) where
   abbrev state : Prelinked J
   state = record { pass = base; stop = None }
 
   pub base-known : (site : ℕ) → site < length given.jobs → KnowsSite base site
-  base-known = all-known given linker (length plan) workers state is refl
+  base-known = all-known given linker table (length plan) workers state is refl
 
   -- the base has learnt the sites that the calls of each thread name
   named-linked : (thread : ℕ) (calls : List Call) → slice_get (calls_of lanes) thread ≡ Some calls → AreLinked base.links.linked (flat_map sites_named calls)
@@ -99,20 +101,20 @@ module _ {J : Type 0} (given : Given) (linker : Linker J) (plan : List (List Cal
 
   numbers-once : EachOnce joined.pass.links.seat.numbers
   numbers-once =
-      so_far.links_known (serials-once given linker (length plan) workers state is)
-      (let whole = serials-whole given linker (length plan) workers state is in let room = so_far.links_room in omega (arith, whole, room))
+      so_far.links_known (serials-once given linker table (length plan) workers state is)
+      (let whole = serials-whole given linker table (length plan) workers state is in let room = so_far.links_room in omega (arith, whole, room))
 
   joined-serials : map (λ (a : Attempt). a.serial) joined.pass.links.attempts ≡ joined.pass.links.seat.numbers
   joined-serials =
       ap (map (λ (a : Attempt). a.serial)) attempts-same
-      ∙ (serials-drawn given linker (length plan) workers state is ∙ sym numbers-same)
+      ∙ (serials-drawn given linker table (length plan) workers state is ∙ sym numbers-same)
 
-  module _ (run : Linked) (tells : TellsRun given joined run) where
+  module _ (run : Linked) (tells : TellsRun given joined run) (values : Found) (agrees : Agrees values joined.pass.links) where
     pub ordered : AreInOrder joined.pass.links.attempts run.attempts
     ordered = in-order joined.pass.links.attempts run.attempts joined.pass.links.seat.numbers joined-serials numbers-once tells.same tells.rising
 
     serials : joined.pass.links.linked ≡ serials_of run.table
-    serials = sym (ap serials_of tells.table ∙ serials-recorded given joined.pass.links.linked)
+    serials = sym (ap serials_of (tells.table values agrees) ∙ serials-recorded (under values given) joined.pass.links.linked)
 
     -- the attempts in order are the workers'
     pub from-ordered : (a : Attempt) → Contains run.attempts a → Contains base.links.attempts a
@@ -143,7 +145,7 @@ module _ {J : Type 0} (given : Given) (linker : Linker J) (plan : List (List Cal
         (IsPermutation-map (λ (a : Attempt). a.site) joined.pass.links.attempts run.attempts tells.same) in
         let same : times x (sites_of joined.pass.links.attempts) ≡ times x (sites_of base.links.attempts) =
         ap (λ made. times x (sites_of made)) attempts-same in
-        omega (arith, moved, same, sites-once given linker (length plan) workers state is x)
+        omega (arith, moved, same, sites-once given linker table (length plan) workers state is x)
 
     ledger-linked : PrelinkedLedger (length plan) workers (length given.jobs) joined.pass.links.linked run.attempts
     ledger-linked = record {
@@ -157,7 +159,7 @@ module _ {J : Type 0} (given : Given) (linker : Linker J) (plan : List (List Cal
           (λ (a : Attempt). (a.site < length given.jobs) × IsOfWorker (length plan) workers a.thread)
           (λ a h.
           let made = from-ordered a h in
-          (of-site given linker (length plan) workers state is a made, of-worker given linker (length plan) workers state is a made)) run.attempts
+          (of-site given linker table (length plan) workers state is a made, of-worker given linker table (length plan) workers state is a made)) run.attempts
           (All-contains_itself run.attempts);
     }
 

@@ -1,9 +1,16 @@
-use Rattle.std.proofs.Common.{◌-◌, length}
+use Rattle.std.proofs.Common.{◌-◌, ◌∙◌, ℕ, List, Bor, length}
+use Rattle.std.proofs.lemmas.List.{length-map}
 use Rattle.mh_runtime.specs.Passes.{most_sites}
 use Rattle.mh_words.specs.Options.{said}
-use Rattle.mh_main.proofs.ClassJobs.{jobs-left, made-all}
+use Rattle.mh_main.proofs.ClassJobs.{jobs-left, made-all, made-none}
 use Rattle.mh_main.proofs.Reaching.{others-among, others-stop}
 use Rattle.mh_main.proofs.jobs.+read_classes.Goals as goal
+
+-- no file is left
+pub returns-in_default-clause-ok : goal.returns-in_default-clause-ok
+returns-in_default-clause-ok g t c =
+    made-none c.args.methods.now.leaves.now c.args.methods.now.scripts.now (most_sites - length c.args.jobs.sites) (said c.args.names.now)
+    (g.I.Inputs.contents c.args.inputs.now) c.args.jobs (length-map c.args.names.now (λ (name : Bor (List ℕ)). name.now) ∙ c.in_default.ensures.cases)
 
 pub returns-clause-ok : goal.returns-clause-ok
 returns-clause-ok g t c =

@@ -1,9 +1,9 @@
-use Rattle.std.proofs.Common.{◌∙◌, refl}
+use Rattle.std.proofs.Common.{◌∙◌}
 use Rattle.mh_main.specs.Input.{named_input}
 use Rattle.mh_main.specs.Stops.{IsStopAmong, ReachesInput, Refuses}
 use Rattle.mh_words.specs.Options.{said}
 use Rattle.mh_words.specs.Words.{held_names}
-use Rattle.mh_main.proofs.Programs.{classes-among, classes-stop, has-jobs, jobs-are, plan-among, plan-stop, program-read, texts-mean}
+use Rattle.mh_main.proofs.Programs.{classes-among, classes-stop, constants-are, has-jobs, jobs-are, plan-among, plan-stop, program-read, texts-mean}
 use Rattle.mh_main.proofs.Reaching.{handed}
 use Rattle.mh_main.proofs.reading.read_program.Goals as goal
 
@@ -84,15 +84,8 @@ returns-clause-ok g c =
     one.keeps.contents one.ok two.ok in
     let has = has-jobs (said c.args.names.now.classes.items) files (g.I.Inputs.contents c.read_scripts.new.inputs) c.in_ok-leaves.leaves c.in_ok-scripts.scripts
     c.in_ok-jobs.jobs (λ n. two.keeps.contents n ∙ one.keeps.contents n) (rw c.deref.ensures.value at three.ok) in
-    program-read names files (g.I.Inputs.contents c.read_jobs.new.inputs)
-    (record {
-      leaves = c.in_ok-leaves.leaves;
-      scripts = c.in_ok-scripts.scripts;
-      jobs = c.in_ok-jobs.jobs;
-      plan = c.in_ok-plan.plan;
-      workers = c.args.names.now.workers;
-      output = c.args.output;
-    }) refl
+    program-read c.args.output names files (g.I.Inputs.contents c.read_jobs.new.inputs) c.in_ok-leaves.leaves c.in_ok-scripts.scripts c.in_ok-jobs.jobs
+    c.in_ok-plan.plan
     (λ n. three.keeps.contents n ∙ two.keeps.contents n ∙ one.keeps.contents n) mean has c.in_ok-plan.ensures.ok
 
 pub returns-clause-runnable : goal.returns-clause-runnable
@@ -101,6 +94,8 @@ returns-clause-runnable g c = record {
   limits = c.in_ok-plan.ensures.limits;
   jobs = jobs-are c.in_ok-leaves.leaves c.in_ok-scripts.scripts (said c.args.names.now.classes.items) (g.I.Inputs.contents c.read_scripts.new.inputs)
       c.in_ok-jobs.jobs (rw c.deref.ensures.value at c.in_ok-jobs.ensures.ok);
+  constants = constants-are c.in_ok-leaves.leaves c.in_ok-scripts.scripts (said c.args.names.now.classes.items)
+      (g.I.Inputs.contents c.read_scripts.new.inputs) c.in_ok-jobs.jobs (rw c.deref.ensures.value at c.in_ok-jobs.ensures.ok);
   few_sites = c.in_ok-jobs.ensures.few;
   few_workers = c.requires;
 }

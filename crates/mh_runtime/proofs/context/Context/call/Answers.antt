@@ -15,7 +15,8 @@ use Rattle.mh_plan.specs.declared.call.Call.TheVariants.{Exact, Generic}
 use Rattle.mh_report.specs.Forms.{used_edits}
 use Rattle.mh_runtime.specs.Asking.{call_draws}
 use Rattle.mh_runtime.specs.Linkers.{MakesCall, pass_in}
-use Rattle.mh_runtime.proofs.asking.MadeCalls.{leaf-made}
+use Rattle.mh_runtime.specs.Attempts.{HasRoomForConstants}
+use Rattle.mh_runtime.proofs.asking.MadeCalls.{leaf-made, on-ok}
 use Rattle.mh_runtime.proofs.context.Context.call.Goals as goal
 
 pub returns-in-Exact-clause-makes : goal.returns-in-Exact-clause-makes
@@ -29,9 +30,9 @@ returns-in-Exact-clause-makes g c =
     let ty = c.in-Exact.ty in
     let args = c.in-Exact.args in
     subst (λ (call : Call). MakesCall given call (pass_in pass w) (pass_in pass w') r) (sym c.in-Exact.is)
-    (leaf-made given (Exact id ty args) pass w w' r refl
+    (leaf-made given (Exact id ty args) pass w w' r refl c.constants_told.ensures
     (goes_on-more 1 call_draws w w' (omega arith) c.call_exact.ensures.goes_on) c.call_exact.ensures.types
-    (λ table. subst (λ (leaves : LeafTable). IfOk r (IsAnswer (exact leaves (tree.Leaf id) ty args 0) (exact_keys leaves (tree.Leaf id) ty)))
+    (λ known table. subst (λ (leaves : LeafTable). IfOk r (IsAnswer (exact leaves (tree.Leaf id) ty args 0) (exact_keys leaves (tree.Leaf id) ty)))
     c.requires.ready.leaves c.call_exact.ensures.answer)
     (subst (λ (leaves : LeafTable). Asks (recipe leaves (tree.Leaf id) ∷ []) w w' r) c.requires.ready.leaves c.call_exact.ensures.asks)
     (subst (λ (leaves : LeafTable). AsksTypes (types_of leaves (tree.Leaf id ∷ [])) w w' r) c.requires.ready.leaves c.call_exact.ensures.asked))
@@ -47,9 +48,9 @@ returns-in-Generic-clause-makes g c =
     let ty = c.in-Generic.ty in
     let args = c.in-Generic.args in
     subst (λ (call : Call). MakesCall given call (pass_in pass w) (pass_in pass w') r) (sym c.in-Generic.is)
-    (leaf-made given (Generic id ty args) pass w w' r refl
+    (leaf-made given (Generic id ty args) pass w w' r refl c.constants_told.ensures
     (goes_on-more 2 call_draws w w' (omega arith) c.call_generic.ensures.goes_on) c.call_generic.ensures.types
-    (λ table. subst (λ (leaves : LeafTable). IfOk r (IsAnswer (generic leaves (tree.Leaf id) ty args 0) (generic_keys leaves (tree.Leaf id) ty)))
+    (λ known table. subst (λ (leaves : LeafTable). IfOk r (IsAnswer (generic leaves (tree.Leaf id) ty args 0) (generic_keys leaves (tree.Leaf id) ty)))
     c.requires.ready.leaves c.call_generic.ensures.answer)
     (subst (λ (leaves : LeafTable). Asks (recipe leaves (tree.Leaf id) ∷ used_edits leaves (tree.Leaf id) ty) w w' r) c.requires.ready.leaves
     c.call_generic.ensures.asks)
@@ -59,3 +60,10 @@ pub returns-in-Indy-clause-makes : goal.returns-in-Indy-clause-makes
 returns-in-Indy-clause-makes g c =
     subst (λ (call : Call). MakesCall g.J.Run.given call (pass_in c.args.pass.now c.args.w.now) (pass_in c.call_site.new.pass c.call_site.new.w)
     c.call_site.result) (sym c.in-Indy.is) c.call_site.ensures.makes
+
+-- a call of a leaf resolves no constant
+pub returns-in-Exact-clause-room_left : goal.returns-in-Exact-clause-room_left
+returns-in-Exact-clause-room_left g c = on-ok c.call_exact.result (HasRoomForConstants c.args.pass.now) c.requires.ready.constants
+
+pub returns-in-Generic-clause-room_left : goal.returns-in-Generic-clause-room_left
+returns-in-Generic-clause-room_left g c = on-ok c.call_generic.result (HasRoomForConstants c.args.pass.now) c.requires.ready.constants

@@ -15,4 +15,4 @@ returns-in_err-call_with-clause-makes g c =
 pub returns-clause-makes : goal.returns-clause-makes
 returns-clause-makes g c =
     site-made g.J.Run.given c.args.site c.args.args.now (pass_in c.args.pass.now c.args.w.now) (pass_in c.resolve.new.pass c.resolve.new.w)
-    c.in_ok-linkage.linkage c.in_ok-linkage.ensures.resolves c.in_ok-call_with.field-0 c.in_ok-call_with.ensures
+    c.in_ok-linkage.linkage c.in_ok-linkage.ensures.resolves c.job-job.ensures.named c.told.ensures c.in_ok-call_with.field-0 c.in_ok-call_with.ensures

@@ -1,4 +1,4 @@
-use Rattle.std.proofs.Common.{◌∙◌}
+use Rattle.std.proofs.Common.{◌∙◌, sym}
 use Rattle.mh_runtime.specs.declared.pass.Pass.{Pass}
 use Rattle.mh_runtime.specs.Bases.{pass_of}
 use Rattle.mh_runtime.specs.Linkers.{IsOf}
@@ -16,6 +16,9 @@ add-requires-clause-lane g c =
     let is = c.requires.2.0 in
     let ran = c.requires.4.1 in
     record { leaves = is.leaves; links = ran.linker_is ∙ is.links; forms = ran.table_is ∙ is.forms; types = ran.types_is ∙ is.types }
+
+pub add-requires-clause-constants : goal.add-requires-clause-constants
+add-requires-clause-constants g c = c.requires.4.1.resolved.goes.table ∙ sym c.requires.2.1.so_far.constants.table
 
 pub returns : goal.returns
 returns g c = λ before after joined within done.

@@ -6,3 +6,12 @@ returns-clause-mine g c = rw (← c.self.view_is) (keeps-serials c.self.inside.k
 
 pub returns-clause-theirs : goal.returns-clause-theirs
 returns-clause-theirs g c = rw (← c.other.view_is) (keeps-serials c.other.inside.known c.join.new.self c.join.ensures.theirs)
+
+pub returns-clause-my_values : goal.returns-clause-my_values
+returns-clause-my_values g c = rw (← c.self.view_is) c.join.ensures.mine
+
+pub returns-clause-their_values : goal.returns-clause-their_values
+returns-clause-their_values g c = rw (← c.other.view_is) c.join.ensures.theirs
+
+pub returns-clause-only : goal.returns-clause-only
+returns-clause-only g c = rw (← c.self.view_is, ← c.other.view_is) c.join.ensures.only

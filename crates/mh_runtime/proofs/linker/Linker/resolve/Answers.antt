@@ -11,6 +11,7 @@ resolve-linkage-requires-clause-ready g c =
       linker_is = is.links;
       ready = record { of_table = is.forms; room = room.forms; of_types = is.types; holds = room.holds };
       serials = room.serials;
+      constants = c.requires.constants;
     }
 
 pub returns-clause-resolves : goal.returns-clause-resolves

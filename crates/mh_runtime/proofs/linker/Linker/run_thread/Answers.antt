@@ -11,6 +11,7 @@ run_thread-run-requires-clause-ready g c =
       linker_is = is.links;
       ready = record { of_table = is.forms; room = room.forms; of_types = is.types; holds = room.holds };
       serials = room.serials;
+      constants = c.requires.constants;
     }
 
 pub returns-clause-runs : goal.returns-clause-runs

@@ -1,0 +1,13 @@
+pub mod Agreeing
+pub mod AttemptValues
+pub mod Asking
+pub mod JoiningConstants
+pub mod JoinedValues
+pub mod RecordedRows
+pub mod MadeConstants
+pub mod ConstantsAsked
+pub mod OrderedPasses
+pub mod ConstantLedger
+pub mod ConstantOrder
+pub mod SerialTables
+pub mod ClassConstants
