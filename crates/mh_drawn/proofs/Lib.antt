@@ -1,10 +1,17 @@
+mod AllLinked
 mod Answered
 mod Attempts
 mod Full
 mod MoreSites
+mod Numbered
+mod Numbers
+mod OfClasses
+mod OwnConstants
 mod ReadOn
 mod Requests
+mod Resolved
 mod SaidWords
 mod Shown
 mod Statuses
 mod Stops
+mod Values

@@ -5,6 +5,8 @@ use Rattle.mh_values.specs.declared.class.Class.{Class}
 use Rattle.mh_outside.specs.Contents.{Contents}
 use Rattle.mh_outside.specs.Causes.{AppendsPart}
 use Rattle.mh_jobs.specs.Given as jobs
+use Rattle.mh_link.specs.Constants.{Serials}
+use Rattle.mh_link.specs.Sites.{with_serials}
 use Rattle.mh_handle.specs.Form.{FormView}
 use Rattle.mh_handle.specs.Passes.{PassView}
 use Rattle.mh_attempt.specs.Asked.{HasAsked}
@@ -17,7 +19,7 @@ use Rattle.mh_drawn.specs.declared.reading.Given.{Given}
 use Rattle.mh_drawn.specs.declared.stop.Stop.{Stop}
 use Rattle.mh_drawn.specs.declared.stop.Stop.TheVariants.{NoMemory, FormsFull, TypesFull, NoSite}
 use Rattle.mh_drawn.specs.Lines.{stop_line, stop_status, usage_line}
-use Rattle.mh_drawn.specs.Linked.{AreAnswered, NeedsManyForms, NeedsManyTypes, edits_to}
+use Rattle.mh_drawn.specs.Linked.{AreAnswered, AreNumbered, NeedsManyForms, NeedsManyTypes, edits_to}
 use Rattle.mh_drawn.specs.Reading.{IsRead, StopsReading, given_by}
 use Rattle.mh_drawn.specs.Status.{done, usage_wanted}
 use Rattle.mh_drawn.specs.Words.{Asked, drawing, why, request_of}
@@ -40,17 +42,20 @@ AreThere sites drawing = Unit {0}
 AreThere sites (why one other) =
     ((site : Site) × (slice_get sites one ≡ Some site)) × ((site : Site) × (slice_get sites other ≡ Some site))
 
--- the text is that of all call sites as they are linked, and of these forms
+-- the text is that of all call sites as they are linked, and of these forms, where constants are what they are given to be
 abbrev pub IsTextOf : jobs.Given → List Place → List FormView → Asked → List ℕ → Type 0
 IsTextOf given places forms asked text =
     (sites : List Site) × AreAnswered given places sites × AreThere sites asked × (text ≡ asked_text given.leaves.classes forms sites asked)
 
--- The text is that of all call sites as they are linked. The forms are those that the attempts at them asked for, each once.
+-- The text is that of all call sites as they are linked. The forms are those that the attempts at them asked for, each once. Constants are what they are by the
+-- serials of the table.
 pub record IsShown (given : jobs.Given) (places : List Place) (asked : Asked) (text : List ℕ) : Type 0 where
+  pub table : Serials
+  pub numbered : AreNumbered given (length given.jobs) table
   pub pass : PassView
   pub sites : List Site
-  pub answered : AreAnswered given places sites
-  pub has_asked : HasAsked (edits_to given (length given.jobs)) pass
+  pub answered : AreAnswered (with_serials table given) places sites
+  pub has_asked : HasAsked (edits_to (with_serials table given) (length given.jobs)) pass
   pub there : AreThere sites asked
   pub text_is : text ≡ asked_text given.leaves.classes pass.asked sites asked
 

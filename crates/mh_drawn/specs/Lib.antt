@@ -1,4 +1,5 @@
 pub mod Answer
+pub mod Constants
 pub mod Lines
 pub mod Linked
 pub mod Reading

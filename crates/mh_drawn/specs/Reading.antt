@@ -1,20 +1,21 @@
 -- What is read of the inputs, and what stops it.
-use Rattle.std.specs.Prelude.{◌≡◌, ◌⊎◌, ◌≤◌, ℕ, ◌-◌, List, [], ◌∷◌, ◌++◌, length, Result, Ok, Err}
+use Rattle.std.specs.Prelude.{◌≡◌, ◌⊎◌, ◌≤◌, ℕ, ◌-◌, List, [], ◌∷◌, ◌++◌, length, All, Result, Ok, Err}
 use Rattle.mh_base.specs.declared.lines.LineFault.{LineFault}
 use Rattle.mh_outside.specs.Causes.{Rose}
 use Rattle.mh_outside.specs.Contents.{Contents, unknown, absent, file, MayBeLonger}
 use Rattle.mh_class_bytes.specs.declared.fault.Fault.{Fault as Fault'}
 use Rattle.mh_class_pool.specs.declared.fault.ClassKind.{ClassKind}
-use Rattle.mh_classfile.specs.Class.{Class}
+use Rattle.mh_classfile.specs.Class.{Class, HasDynamics}
 use Rattle.mh_classfile.specs.File.{class_or_fault}
 use Rattle.mh_leaf.specs.LeafTable.{LeafTable}
 use Rattle.mh_leaves.specs.Manifest.{manifest, kind_word as manifest_word}
 use Rattle.mh_script.specs.declared.script.Script.{Script}
 use Rattle.mh_script.specs.Kinds.{kind_word as script_word}
 use Rattle.mh_script.specs.Scripts.{scripts}
-use Rattle.mh_jobs.specs.Given.{AreJobsOf}
+use Rattle.mh_jobs.specs.declared.run_jobs.RunJobs.{RunJobs}
+use Rattle.mh_jobs.specs.Given.{AreJobsOf, nothing_known}
 use Rattle.mh_jobs.specs.Given as jobs
-use Rattle.mh_jobs.specs.RunJobs.{no_jobs, with_class}
+use Rattle.mh_jobs.specs.RunJobs.{jobs_of, no_jobs, with_class}
 use Rattle.mh_words.specs.Words.{Named}
 use Rattle.mh_drawing.specs.Places.{places_of}
 use Rattle.mh_drawn.specs.declared.reading.Given.{Given}
@@ -65,18 +66,30 @@ pub record IsRead (names : Named) (files : List ℕ → Contents) (given : Given
   pub scripts_are : HasMeaning text_limit scripts (files names.scripts) given.scripts
   pub sites : AddsClasses given.leaves given.scripts names.classes files no_sites given.sites
 
--- what a run is given
+-- what a run is given before anything is linked
 abbrev pub given_by : Given → jobs.Given
-given_by given = record { leaves = given.leaves; scripts = given.scripts; jobs = given.sites.jobs.sites }
+given_by given = record {
+  leaves = given.leaves;
+  scripts = given.scripts;
+  jobs = given.sites.jobs.sites;
+  constants = given.sites.jobs.constants;
+  values = nothing_known;
+}
 
 -- the run is given this
 abbrev pub IsGiven : Given → jobs.Given → Type 0
-IsGiven given run = (given.leaves ≡ run.leaves) × (given.scripts ≡ run.scripts) × (given.sites.jobs.sites ≡ run.jobs)
+IsGiven given run =
+    (given.leaves ≡ run.leaves) × (given.scripts ≡ run.scripts) × (given.sites.jobs.sites ≡ run.jobs) × (given.sites.jobs.constants ≡ run.constants)
+
+-- these are the jobs of classes whose bootstrap methods are given Dynamic entries of their own
+abbrev pub AreOfClasses : LeafTable → List Script → RunJobs → Type 0
+AreOfClasses leaves scripts jobs = (classes : List Class) × (jobs ≡ jobs_of leaves scripts classes) × All HasDynamics classes
 
 -- call sites of class files, with a place for each
 abbrev pub AreSites : LeafTable → List Script → Sites → Type 0
 AreSites leaves scripts sites =
     (length sites.jobs.sites ≤ most_sites) × (length sites.places ≡ length sites.jobs.sites) × AreJobsOf leaves scripts sites.jobs.sites
+    × AreOfClasses leaves scripts sites.jobs
 
 -- ---- what stops the reading
 

@@ -2,6 +2,7 @@
 //! their drawing, or why two of them share a form or do not.
 #![tactic(auto)]
 
+mod constants;
 mod linking;
 mod program;
 mod reading;

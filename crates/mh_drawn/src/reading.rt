@@ -3,6 +3,7 @@
 ghost use Rattle.std.specs.Prelude.{◌≡◌, ◌≤◌, ◌+◌, ◌-◌, ◌++◌, ℕ, List, Ok, IfOk, IfErr, OnOk, length};
 ghost use Rattle.mh_outside.specs.Causes.{AreSame};
 ghost use Rattle.mh_outside.specs.Contents.{IsWhole};
+ghost use Rattle.mh_classfile.specs.Class.{HasDynamics};
 ghost use Rattle.mh_classfile.specs.File.{class_or_fault};
 ghost use Rattle.mh_leaf.specs.LeafTable.{LeafTable};
 ghost use Rattle.mh_script.specs.declared.script.Script.{Script};
@@ -156,6 +157,7 @@ fn class_of<'a, 'b>(
     ensures stop { IfErr result (StopsBytes name.now room bytes.now) }
     ensures ok { IfOk result (λ view. class_or_fault room bytes.now ≡ Ok view) }
     ensures few { IfOk result (λ view. length view.sites ≤ room) }
+    ensures dynamics { IfOk result (λ view. HasDynamics view) }
 {
     match read(alloc, bytes, room) {
         Ok(view) => Ok(view),
@@ -174,6 +176,7 @@ fn with_class<'a>(
 ) -> Result<Sites, Stop<'a>>
     requires sites { AreSites methods.now.leaves.now methods.now.scripts.now sites }
     requires few { length view.now.sites ≤ most_sites - length sites.jobs.sites }
+    requires dynamics { HasDynamics view.now }
     ensures jobs { IfOk result (λ all. all.jobs
         ≡ with_class methods.now.leaves.now methods.now.scripts.now sites.jobs view.now) }
     ensures places { IfOk result

@@ -1,18 +1,19 @@
 //! What is asked for, of all call sites.
 
 ghost use Rattle.std.specs.Prelude.{◌≡◌, ◌≤◌, ◌⊎◌, length, map, slice_get, IfOk, IfErr, Some};
-ghost use Rattle.mh_jobs.specs.Given.{AreJobs};
+ghost use Rattle.mh_jobs.specs.Given.{AreJobs, Found, under};
 ghost use Rattle.mh_drawn.specs.Answer.{AreThere, IsShown, IsTextOf, LacksSite, StopsShowing, asked_text};
-ghost use Rattle.mh_drawn.specs.Linked.{AreLinkages};
+ghost use Rattle.mh_drawn.specs.Linked.{AreConstantsOf, AreLinkages};
 ghost use Rattle.mh_drawn.specs.Reading.{IsGiven, most_sites};
 ghost use Rattle.mh_drawn.specs.Words.{held_asked, why};
 
 use crate::linking::sites_of;
 use crate::reading::Given;
 use crate::stop::Stop;
-use crate::tables::{Tables, first_seats, link};
+use crate::tables::{FirstSeats, Tables, first_seats, link};
 use crate::words::Asked;
-use mh_attempt::Linkage;
+use mh_attempt::{ConstantsOf, Linkage};
+use mh_condy::ConstTable;
 use mh_drawing::{ShownForm, Site, draw_forms, say_why, shown_forms};
 use mh_handle::{Form, FormTable};
 use mh_intern::TypeTable;
@@ -82,8 +83,12 @@ fn text_of<J: Run>(
     requires given { IsGiven given.now J.given }
     requires few { length J.given.jobs ≤ most_sites }
     requires each { length given.now.sites.places ≡ length J.given.jobs }
-    requires linkages { AreLinkages (length given.now.sites.places) linkages.now }
-    ensures text { IfOk result (λ text. IsTextOf J.given given.now.sites.places
+    requires linkages { length linkages.now ≡ length given.now.sites.places }
+
+    // Where constants have the values that the attempts have found.
+    ensures text { IfOk result (λ text. (known : Found)
+        → AreLinkages known (length given.now.sites.places) linkages.now
+        → IsTextOf (under known J.given) given.now.sites.places
         (map (λ form. form.now) forms.now) (held_asked asked) text.items) }
     ensures stop { IfErr result (StopsShowing J.given (held_asked asked)) }
 {
@@ -107,6 +112,7 @@ pub(crate) fn show<J: Run, R: Wait>(
 ) -> Result<Vec<u8>, Stop<'static>>
     requires given { IsGiven given.now J.given }
     requires are_jobs { AreJobs J.given }
+    requires constants { AreConstantsOf J.given }
     requires few { length J.given.jobs ≤ most_sites }
     requires each { length given.now.sites.places ≡ length J.given.jobs }
     ensures text { IfOk result
@@ -116,8 +122,19 @@ pub(crate) fn show<J: Run, R: Wait>(
     let (types, type_seat) = TypeTable::new(alloc)?;
     let (forms, form_seat) = FormTable::new(alloc)?;
     let tables = Tables { types, forms };
-    let mut seats = first_seats::<J>(alloc, &tables, type_seat, form_seat)?;
-    let linkages = link::<J, R>(rt, alloc, given, &tables, &mut seats)?;
+    let (constants, serials) = ConstTable::<ConstantsOf<J>>::new(
+        alloc,
+        &given.sites.jobs.constants,
+        &given.scripts,
+        &given.leaves,
+    )?;
+    let first = FirstSeats {
+        types: type_seat,
+        forms: form_seat,
+        serials,
+    };
+    let mut seats = first_seats::<J>(alloc, &tables, &constants, first)?;
+    let linkages = link::<J, R>(rt, alloc, given, &tables, &constants, &mut seats)?;
     text_of::<J>(
         alloc,
         given,

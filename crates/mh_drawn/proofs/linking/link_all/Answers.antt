@@ -1,3 +1,4 @@
+use Rattle.std.proofs.Common.{◌∙◌}
 use Rattle.mh_drawn.proofs.Answered.{more-linkages}
 use Rattle.mh_drawn.proofs.Attempts.{lent_both}
 use Rattle.mh_drawn.proofs.linking.link_all.Goals as goal
@@ -8,7 +9,8 @@ loop-number-preserved g c =
     record {
       of = one.of;
       lent = lent_both _ _ _ c.loop-number.invariant.lent one.lent;
+      table = one.table ∙ c.loop-number.invariant.table;
       linked = one.linked;
-      linkages = more-linkages c.loop-number.number c.loop-number.linkages _ c.in_ok-link_site.field-0 c.loop-number.invariant.linkages one.site
-          c.in_ok-push.ensures.ok;
+      linkages = more-linkages c.loop-number.asked.known c.link_site.new.asked.known c.loop-number.number c.loop-number.linkages _ c.in_ok-link_site.field-0
+          one.keeps c.loop-number.invariant.linkages one.site c.in_ok-push.ensures.ok;
     }

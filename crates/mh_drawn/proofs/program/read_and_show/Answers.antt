@@ -4,7 +4,13 @@ use Rattle.mh_words.specs.Words.{held_names}
 use Rattle.mh_drawn.specs.Answer.{IsShown, ShowsRead, StopsRequest, StopsShowing}
 use Rattle.mh_drawn.specs.Reading.{given_by}
 use Rattle.mh_drawn.specs.Words.{held_asked}
+use Rattle.mh_drawn.proofs.OfClasses.{are-constants}
 use Rattle.mh_drawn.proofs.program.read_and_show.Goals as goal
+
+pub show-requires-clause-constants : goal.show-requires-clause-constants
+show-requires-clause-constants g c =
+    let given = c.in_ok-given.given in
+    are-constants given.leaves given.scripts given.sites.jobs c.in_ok-given.ensures.sites.3
 
 pub returns-clause-text : goal.returns-clause-text
 returns-clause-text g c =
