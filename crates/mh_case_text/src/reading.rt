@@ -58,8 +58,8 @@ impl Reading {
 }
 
 /// The cases of a text, in order; or the first line that is wrong, which is the last one if the
-/// text ends within a case. Empty lines and those with `#` in front are passed over. A case has these
-/// lines:
+/// text ends within a case. Empty lines and those with `#` in front are passed over. A case has
+/// these lines:
 ///
 /// - `case NAME` begins it, and `end` ends it;
 /// - `like NAME` takes the words and files of a case above it; its own files count instead of those

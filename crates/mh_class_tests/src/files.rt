@@ -1,6 +1,7 @@
 ghost use Rattle.std.specs.Prelude.{◌≡◌, length};
 
-/// Class `made/Main` with the method `run()V`, whose code is `return`, and no call sites: 271 bytes.
+/// Class `made/Main` with the method `run()V`, whose code is `return`, and no call sites: 271
+/// bytes.
 pub fn made() -> &'static [u8]
     ensures { length result.now ≡ 271 }
 {
@@ -33,8 +34,8 @@ pub fn made_site() -> &'static [u8]
     \0\0\0\x06\0\x01\0\x10\0\0"
 }
 
-/// Class `demo/Main` made of parts that javac writes, with `run(I)V`, whose code is a tableswitch and two call
-/// sites: of a string concatenation and of a lambda expression.
+/// Class `demo/Main` made of parts that javac writes, with `run(I)V`, whose code is a tableswitch
+/// and two call sites: of a string concatenation and of a lambda expression.
 pub fn demo() -> &'static [u8]
     ensures { length result.now ≡ 1019 }
 {
@@ -68,8 +69,8 @@ pub fn demo() -> &'static [u8]
     \x0B\0\x01\0\x0D\0\x1A\0\x03\0\x0F\0\x13\0\x0F"
 }
 
-/// Class `all/Tags`, of the oldest version, with an entry of each tag, an interface, a field, a method
-/// without code, and a bootstrap method that is given each kind of argument.
+/// Class `all/Tags`, of the oldest version, with an entry of each tag, an interface, a field, a
+/// method without code, and a bootstrap method that is given each kind of argument.
 pub fn all_tags() -> &'static [u8]
     ensures { length result.now ≡ 273 }
 {

@@ -1,5 +1,5 @@
-//! Class files: their texts, constant pools and call sites, those that are made, and what attempts link
-//! at call sites. The class files and the call sites are for other crates of tests too.
+//! Class files: their texts, constant pools and call sites, those that are made, and what attempts
+//! link at call sites. The class files and the call sites are for other crates of tests too.
 #![tactic(auto)]
 
 #[cfg(test)]

@@ -6,17 +6,21 @@ ghost use Rattle.mh_intern.specs.Views.{new_seat};
 ghost use Rattle.mh_handle.specs.Passes.{seat_at};
 ghost use Rattle.mh_handle.specs.Works.{GoesOn, IsReady, leaves_of};
 ghost use Rattle.mh_jobs.specs.Given.{IsJob};
+ghost use Rattle.mh_condy.specs.Nodes.{unresolved};
 ghost use Rattle.mh_attempt.specs.Asked.{attempt_draws};
+ghost use Rattle.mh_attempt.specs.Constants.{HasPlaces};
 ghost use Rattle.mh_steps.specs.AnyTypes.{ExchangesAny};
+ghost use Rattle.mh_class_tests.specs.Alone.{alone};
 
 use crate::linked_files::{Constants, LINKED, Site, class_file};
 use crate::untried::Untried;
-use mh_attempt::{Linkage, Linked, WorkError, attempt};
+use mh_attempt::{ConstantsOf, Linkage, Linked, WorkError, attempt};
 use mh_base::NoMemory;
 use mh_classfile::read;
+use mh_condy::{ConstPass, ConstTable};
 use mh_handle::{Answer, FormTable, Work};
 use mh_intern::{TypeSeat, TypeTable};
-use mh_jobs::{Job, Run, job_of};
+use mh_jobs::{ConstJobs, Job, Run, job_of};
 use mh_leaves::{Leaves, read_manifest};
 use mh_script::{ScriptError, Scripts, read_scripts};
 use mh_steps::{Broken, MANIFEST, Start, items_of};
@@ -69,8 +73,12 @@ fn scripts_of(alloc: Global, lines: &str) -> Result<Scripts, ScriptError> {
 /// Looks for what [`job_for`] would answer as lack of memory though there is some.
 fn check_site(alloc: Global, site: Site) -> Result<(), Untried> {
     let file = class_file(alloc, site)?;
-    if read(alloc, &file, 1)?.sites() == 0 {
+    let view = read(alloc, &file, 1)?;
+    if view.sites() == 0 {
         return Err(Untried::Broken(Broken::Fixture("a class file without a site")));
+    }
+    if view.dynamics() != 0 {
+        return Err(Untried::Broken(Broken::Fixture("a class file with a Dynamic entry")));
     }
     Ok(())
 }
@@ -79,12 +87,13 @@ fn check_site(alloc: Global, site: Site) -> Result<(), Untried> {
 fn job_for(alloc: Global, leaves: &Leaves, scripts: &Scripts, site: Site) -> Result<Job, NoMemory>
     ensures job { IfOk result (λ job. IsJob leaves.now scripts.now job) }
     ensures site { IfOk result (λ job. job.site ≡ 0) }
+    ensures places { IfOk result (λ job. HasPlaces (alone leaves.now scripts.now job) job) }
 {
     let file = class_file(alloc, site)?;
     let Ok(view) = read(alloc, &file, 1) else {
         return Err(NoMemory);
     };
-    if view.sites() == 0 {
+    if view.sites() == 0 || view.dynamics() != 0 {
         return Err(NoMemory);
     }
     job_of(alloc, &view, 0, 0, 0, scripts, leaves)
@@ -166,9 +175,11 @@ fn is_serial(serial: u64) -> bool
 }
 
 /// What comes of an attempt for a job of the run that `J` names. The linkage is given back.
-fn attempt_text<'t, J: Run, R: Wait>(
+fn attempt_text<'s, 't, J: Run, R: Wait>(
     w: &mut Work<'_, 't>,
     rt: &R,
+    constants: &'s ConstTable<'t, ConstantsOf<J>>,
+    asked: &mut ConstPass<'s, 't, ConstantsOf<J>>,
     scripts: &Scripts,
     job: &'t Job,
     turn: Turn<'_>,
@@ -177,6 +188,9 @@ fn attempt_text<'t, J: Run, R: Wait>(
     requires scripts { scripts.now ≡ J.given.scripts }
     requires leaves { leaves_of w.old ≡ J.given.leaves }
     requires job { IsJob J.given.leaves J.given.scripts job.now }
+    requires places { HasPlaces J.given job.now }
+    requires pass { asked.old.table ≡ constants.now }
+    requires room { unresolved asked.old.known ≤ asked.old.seat.room }
     requires ready { IsReady w.old attempt_draws }
     ensures goes_on { GoesOn attempt_draws w.old w.new }
     ensures types { ExchangesAny [] [] w.old.seat.now w.new.seat.now }
@@ -185,18 +199,18 @@ fn attempt_text<'t, J: Run, R: Wait>(
         return Err(WorkError::NoMemory);
     }
     let leaves = w.leaves;
-    let linkage = attempt::<J, R>(w, rt, scripts, job, turn.serial)?;
+    let linkage = attempt::<J, R>(w, rt, constants, asked, scripts, job, turn.serial)?;
     let text = linkage_text(w.alloc, &linkage, leaves, turn.args);
     linkage.give_back(w);
     Ok(text?)
 }
 
-/// The same on tables of its own.
+/// The same on tables of its own, in a run that has no dynamic constants.
 fn named_text<'t, J: Run, R: Wait>(
     rt: &R,
     start: Start<'t>,
     held: &mut TypeSeat,
-    scripts: &Scripts,
+    scripts: &'t Scripts,
     job: &'t Job,
     turn: Turn<'_>,
 ) -> Result<Vec<u8>, WorkError>
@@ -204,6 +218,8 @@ fn named_text<'t, J: Run, R: Wait>(
     requires scripts { scripts.now ≡ J.given.scripts }
     requires leaves { start.leaves.now ≡ J.given.leaves }
     requires job { IsJob J.given.leaves J.given.scripts job.now }
+    requires places { HasPlaces J.given job.now }
+    requires constants { J.given.constants ≡ [] }
     requires first { start.seat ≡ seat_at start.table.now 0 }
     requires held { held.old ≡ new_seat start.types.now limit }
     ensures types { ExchangesAny [] [] held.old held.new }
@@ -215,6 +231,9 @@ fn named_text<'t, J: Run, R: Wait>(
         types,
         leaves,
     } = start;
+    let none = ConstJobs::new(alloc);
+    let (constants, asked) = ConstTable::<ConstantsOf<J>>::new(alloc, &none, scripts, leaves)?;
+    let mut asked = constants.first_pass(asked)?;
     let mut pass = table.first_pass(alloc, seat)?;
     let mut w = Work {
         alloc,
@@ -224,7 +243,7 @@ fn named_text<'t, J: Run, R: Wait>(
         pass: &mut pass,
         leaves,
     };
-    let text = attempt_text::<J, R>(&mut w, rt, scripts, job, turn);
+    let text = attempt_text::<J, R>(&mut w, rt, &constants, &mut asked, scripts, job, turn);
     let Work {
         alloc: _,
         types: _,
@@ -241,11 +260,12 @@ fn job_text<'t, R: Wait>(
     rt: &R,
     start: Start<'t>,
     held: &mut TypeSeat,
-    scripts: &Scripts,
+    scripts: &'t Scripts,
     job: &'t Job,
     turn: Turn<'_>,
 ) -> Result<Vec<u8>, WorkError>
     requires job { IsJob start.leaves.now scripts.now job.now }
+    requires places { HasPlaces (alone start.leaves.now scripts.now job.now) job.now }
     requires site { job.now.site ≡ 0 }
     requires first { start.seat ≡ seat_at start.table.now 0 }
     requires held { held.old ≡ new_seat start.types.now limit }

@@ -5,8 +5,8 @@ ghost use Rattle.mh_class_tests.specs.LinkedFiles.{Extends};
 
 use std::alloc::{AllocError, Global};
 
-/// Constants of a pool after the first 19, and how many they are: the last of them, if there is one,
-/// is the static argument.
+/// Constants of a pool after the first 19, and how many they are: the last of them, if there is
+/// one, is the static argument.
 #[derive(Clone, Copy)]
 pub(crate) struct Constants(pub(crate) &'static [u8], pub(crate) u8);
 

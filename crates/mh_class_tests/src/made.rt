@@ -23,7 +23,8 @@ fn each_kind(alloc: Global) -> Result<MadeArgs, NoMemory>
     Ok(args)
 }
 
-/// How many call sites a made class is read with: as many as it was made for, unless memory runs out.
+/// How many call sites a made class is read with: as many as it was made for, unless memory runs
+/// out.
 fn count_read(alloc: Global, sites: &MadeSites) -> Result<u32, ClassError>
     requires makeable { AreMakeable sites.now }
     requires readable { AllByRecursion IsReadable sites.now }

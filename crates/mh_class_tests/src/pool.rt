@@ -4,8 +4,8 @@ use mh_class_pool::{
 };
 use std::test::*;
 
-/// A byte that stands before the pool, and a pool of the count 9: the texts `C`, `f` and `()V`, class
-/// `C`, a name and type, a method, and a Long.
+/// A byte that stands before the pool, and a pool of the count 9: the texts `C`, `f` and `()V`,
+/// class `C`, a name and type, a method, and a Long.
 const POOL: &[u8] = b"\0\
     \x01\0\x01C\x01\0\x01f\x01\0\x03()V\x07\0\x01\x0C\0\x02\0\x03\x0A\0\x04\0\x05\
     \x05\0\0\0\0\0\0\0\x07";

@@ -8,12 +8,15 @@ ghost use Rattle.mh_intern.specs.Views as types_seat;
 ghost use Rattle.mh_tickets.specs.Seats as serials_seat;
 ghost use Rattle.mh_handle.specs.Seats as forms_seat;
 ghost use Rattle.mh_jobs.specs.Given.{AreJobs};
-ghost use Rattle.mh_runtime.specs.Input.{given_by};
+ghost use Rattle.mh_runtime.specs.Attempts.{HasRoomForConstants};
+ghost use Rattle.mh_runtime.specs.Input.{AreConstantsOf, given_by};
 ghost use Rattle.mh_runtime.specs.Linkers.{HasRoom, IsOf};
-ghost use Rattle.mh_runtime.specs.Passes.{most_sites};
+ghost use Rattle.mh_runtime.specs.Passes.{most_sites, split_room};
 
+use mh_attempt::ConstantsOf;
 use mh_base::{NoMemory, Seq};
 use mh_classfile::read;
+use mh_condy::ConstTable;
 use mh_form::Machine;
 use mh_jobs::{Run, RunJobs, push_class};
 use mh_leaves::read_manifest;
@@ -23,6 +26,7 @@ use mh_report::push_answer;
 use mh_runtime::{Linker, MOST_SITES, Pass, RunInput, Seats, Tables};
 use mh_script::read_scripts;
 use mh_texts::read_literal;
+use mh_tickets::TicketSeat;
 use std::alloc::Global;
 use std::process::ExitCode;
 use std::sync::Wait;
@@ -53,6 +57,7 @@ fn call<'s, 't, J: Run, R: Wait>(
 ) -> Bytes
     requires pass { IsOf J.given linker.now pass.old }
     requires room { HasRoom 1 pass.old }
+    requires constants { HasRoomForConstants pass.old.links }
 {
     let classes = linker.leaves.classes();
     let mut items = Seq::new(alloc);
@@ -70,20 +75,28 @@ fn call<'s, 't, J: Run, R: Wait>(
     Ok(line)
 }
 
+/// What the threads share: a linker, and the table of the dynamic constants.
+#[derive(Drop)]
+struct Shared<'t, J: Run> {
+    linker: Linker<'t, J>,
+    constants: ConstTable<'t, ConstantsOf<J>>,
+}
+
 // Calls the site from two threads, each with a pass of its own.
 fn call_from_both<'s, 't, J: Run + Send + Sync, R: Threads + Wait + Sync>(
     rt: &R,
     alloc: Global,
     linker: &'s Linker<'t, J>,
-    seats: Seats,
+    mut one: Pass<'s, 't, J>,
+    mut two: Pass<'s, 't, J>,
 ) -> Bytes
-    requires leaves { linker.now.leaves.now ≡ J.given.leaves }
-    requires types { seats.types ≡ types_seat.new_seat linker.now.types.now limit }
-    requires forms { seats.forms ≡ forms_seat.new_seat linker.now.forms.now limit }
-    requires serials { seats.serials ≡ serials_seat.new_seat linker.now.sites.serials limit }
+    requires one { IsOf J.given linker.now one }
+    requires one_room { HasRoom 1 one }
+    requires one_constants { HasRoomForConstants one.links }
+    requires two { IsOf J.given linker.now two }
+    requires two_room { HasRoom 1 two }
+    requires two_constants { HasRoomForConstants two.links }
 {
-    let mut one = linker.first_pass(seats)?;
-    let mut two = linker.split(&mut one, 1)?;
     let (first, second) = join_mut(
         rt,
         &mut || call(rt, alloc, linker, &mut one, [b"i:3", b"i:4"]),
@@ -94,6 +107,49 @@ fn call_from_both<'s, 't, J: Run + Send + Sync, R: Threads + Wait + Sync>(
     Ok(lines)
 }
 
+// The same with a first pass, and one that is split off it.
+fn split_and_call<'s, 't, J: Run + Send + Sync, R: Threads + Wait + Sync>(
+    rt: &R,
+    alloc: Global,
+    shared: &'s Shared<'t, J>,
+    seats: Seats,
+    asked: TicketSeat,
+) -> Bytes
+    requires leaves { shared.now.linker.leaves.now ≡ J.given.leaves }
+    requires types { seats.types ≡ types_seat.new_seat shared.now.linker.types.now limit }
+    requires forms { seats.forms ≡ forms_seat.new_seat shared.now.linker.forms.now limit }
+    requires serials { seats.serials ≡ serials_seat.new_seat shared.now.linker.sites.serials limit }
+    requires asked { asked ≡ serials_seat.new_seat shared.now.constants.serials limit }
+    requires few { length J.given.constants ≤ split_room }
+{
+    let linker = &shared.linker;
+    let constants = &shared.constants;
+    let asked = constants.first_pass(asked)?;
+    let mut one = linker.first_pass(seats, constants, asked)?;
+    let two = linker.split(&mut one, 1)?;
+    call_from_both(rt, alloc, linker, one, two)
+}
+
+// The same with a linker and a table that are nowhere else.
+fn call_shared<'t, J: Run + Send + Sync, R: Threads + Wait + Sync>(
+    rt: &R,
+    alloc: Global,
+    linker: Linker<'t, J>,
+    constants: ConstTable<'t, ConstantsOf<J>>,
+    seats: Seats,
+    asked: TicketSeat,
+) -> Bytes
+    requires leaves { linker.leaves.now ≡ J.given.leaves }
+    requires types { seats.types ≡ types_seat.new_seat linker.types.now limit }
+    requires forms { seats.forms ≡ forms_seat.new_seat linker.forms.now limit }
+    requires serials { seats.serials ≡ serials_seat.new_seat linker.sites.serials limit }
+    requires asked { asked ≡ serials_seat.new_seat constants.serials limit }
+    requires few { length J.given.constants ≤ split_room }
+{
+    let shared = Shared { linker, constants };
+    split_and_call(rt, alloc, &shared, seats, asked)
+}
+
 // Makes the tables that the threads share, and a linker over them.
 fn link_and_call<'a, J: Run + Send + Sync, R: Threads + Wait + Sync>(
     rt: &R,
@@ -102,11 +158,19 @@ fn link_and_call<'a, J: Run + Send + Sync, R: Threads + Wait + Sync>(
 ) -> Bytes
     requires named { given_by input.now ≡ J.given }
     requires jobs { AreJobs J.given }
+    requires constants { AreConstantsOf J.given }
     requires few { length J.given.jobs ≤ most_sites }
+    requires few_constants { length J.given.constants ≤ split_room }
 {
     let (tables, seats) = Tables::new(alloc)?;
     let linker = Linker::<J>::new(alloc, input, &tables)?;
-    call_from_both(rt, alloc, &linker, seats)
+    let (constants, asked) = ConstTable::<ConstantsOf<J>>::new(
+        alloc,
+        input.constants,
+        input.scripts,
+        input.leaves,
+    )?;
+    call_shared(rt, alloc, linker, constants, seats, asked)
 }
 
 /// The bytes of a file, at most 1,048,576.
@@ -122,13 +186,14 @@ fn lines<R: Threads + Wait + Sync, I: Inputs>(rt: &R, alloc: Global, inputs: &mu
     let class = read(alloc, &bytes, MOST_SITES).or(Err(Stopped))?;
     let mut jobs = RunJobs::new(alloc);
     push_class(alloc, &mut jobs, &class, &scripts, &leaves)?;
-    if jobs.sites.len() > MOST_SITES as usize {
+    if jobs.sites.len() > MOST_SITES as usize || jobs.constants.len() > u32::MAX as usize {
         return Err(Stopped);
     }
     let input = RunInput {
         leaves: &leaves,
         scripts: &scripts,
         jobs: &jobs.sites,
+        constants: &jobs.constants,
     };
     link_and_call::<std::marker::Brand, R>(rt, alloc, &input)
 }
