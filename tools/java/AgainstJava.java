@@ -96,6 +96,23 @@ public final class AgainstJava {
         Object[] rest = Arrays.copyOfRange(arguments, 1, arguments.length);
         return current.link((int) arguments[0], new Request(caller, name, type, rest));
     }
+
+    /** The bootstrap method of all dynamic constants. The first static argument is what `begin` gives. */
+    public static Object give(MethodHandles.Lookup caller, String name, Class<?> type, Object... arguments)
+            throws Throwable {
+        Object[] rest = Arrays.copyOfRange(arguments, 1, arguments.length);
+        return current.give((int) arguments[0], type, rest);
+    }
+
+    /** Begins an attempt at a constant, before its other static arguments are resolved; the number of the constant. */
+    public static Object begin(MethodHandles.Lookup caller, String name, Class<?> type, int number) {
+        return current.begin(number);
+    }
+
+    /** Throws in the place of a static argument that mh refuses. */
+    public static Object refuse(MethodHandles.Lookup caller, String name, Class<?> type, int number) throws Throwable {
+        throw current.refused(number);
+    }
 }
 
 /** What is mh's own, and is applied here in the place of what the machine does (docs/DIFFERENCES.md). */
@@ -132,6 +149,14 @@ enum Own {
     LOST,
     /** Exceptions of a target of 254 slots are caught. */
     WIDE,
+    /** A dynamic constant that is too deep or reaches itself is refused before its static arguments. */
+    DEPTH,
+    /** A script that makes a method handle gives no value of a dynamic constant. */
+    HANDLES,
+    /** The error of a dynamic constant has its cause at each call site that asks for the constant. */
+    ASKED,
+    /** A dynamic constant that is null is a constant of a concatenation. */
+    NULLS,
     /** A class, a type or a handle among the constants of a concatenation is refused. */
     CLASSES,
     /** An object, an array or an exception has a text of mh's own in a concatenation. */
@@ -155,11 +180,15 @@ final class Run {
     final Map<String, Leaf> leaves;
     final Map<String, List<List<String>>> scripts;
     private final List<Leaf> numbered;
-    private final List<Site> sites;
+    private final List<Site> sites = new ArrayList<>();
+    private final List<DynamicConstant> constants = new ArrayList<>();
     private final List<List<Call>> threads;
+    /** What is thrown in the place of static arguments that mh refuses, by their numbers. */
+    private final List<Fault> refused = new ArrayList<>();
     private final Map<Own, Integer> applied = new TreeMap<>();
     private final List<Integer> called = new ArrayList<>();
     private long attempts;
+    private long constantAttempts;
 
     Run(List<String> files, boolean isPlain) throws IOException {
         isOwn = !isPlain;
@@ -170,7 +199,7 @@ final class Run {
         classes = new Classes(manifest);
         exceptions = new Exceptions(classes);
         literals = new Literals(classes, exceptions);
-        sites = sitesOf(files.subList(3, files.size()));
+        read(files.subList(3, files.size()));
         threads = threadsOf(Lines.read(files.get(2)));
     }
 
@@ -188,14 +217,23 @@ final class Run {
         return scripts;
     }
 
-    private static List<Site> sitesOf(List<String> files) throws IOException {
-        List<Site> sites = new ArrayList<>();
+    /** Reads class files; call sites and dynamic constants are numbered over all of them. */
+    private void read(List<String> files) throws IOException {
         for (String file : files) {
-            for (SiteView view : new ClassFile(Files.readAllBytes(Path.of(file))).sites()) {
-                sites.add(new Site(sites.size(), view));
+            var read = new ClassFile(Files.readAllBytes(Path.of(file)), constants.size());
+            var members = new Members(new ArrayList<>(), new ArrayList<>());
+            for (SiteView view : read.sites()) {
+                members.sites().add(new Site(sites.size() + members.sites().size(), view, members));
             }
+            for (ConstantView view : read.constants()) {
+                members.constants().add(new DynamicConstant(view, members));
+            }
+            sites.addAll(members.sites());
+            constants.addAll(members.constants());
         }
-        return sites;
+        var depths = new Depths(constants);
+        var resolution = new Resolution(this);
+        constants.forEach(constant -> constant.fault = resolution.faultOf(constant.view, depths.isTooDeep(constant)));
     }
 
     private static List<List<Call>> threadsOf(List<List<String>> lines) {
@@ -219,6 +257,7 @@ final class Run {
         }
         var report = new StringBuilder();
         sites.forEach(site -> report.append(site.line(this)));
+        constants.forEach(constant -> report.append(constant.line(this)));
         report.append(calls).append("attempts ").append(attempts).append(" forms - types -\n");
         applied.forEach((rule, count) -> report.append("own " + rule.name().toLowerCase() + " " + count + "\n"));
         return report.toString();
@@ -331,6 +370,8 @@ final class Run {
             return site.caller.site(classes.filled(site.view.descriptor(), arguments));
         } catch (Throwable thrown) {
             throw site.isLinked() ? thrown : failed(site, thrown);
+        } finally {
+            settleAll(site, null);
         }
     }
 
@@ -345,19 +386,114 @@ final class Run {
 
     /** What the machine threw in the place of linking a site: the first time, and then each time. */
     private Throwable failed(Site site, Throwable thrown) {
-        if (site.error == null) {
-            site.error = thrown;
+        if (site.error != null) {
+            return isOwn ? again(Own.AGAIN, site.error, thrown) : thrown;
         }
-        if (!isOwn) {
-            return thrown;
+        DynamicConstant failing = settleAll(site, thrown);
+        site.error = failing == null || !isOwn ? thrown : again(Own.ASKED, failing.error, thrown);
+        return site.error;
+    }
+
+    /** The first error that was thrown, where the machine left its cause out or cannot find a class. */
+    private Throwable again(Own rule, Throwable first, Throwable thrown) {
+        if (isLost(first, thrown)) {
+            return own(Own.LOST, first);
         }
-        Throwable first = site.error;
-        if (thrown.getClass() == first.getClass() && thrown.getCause() == null && first.getCause() != null) {
-            return own(Own.AGAIN, first);
-        }
-        boolean isLost = thrown instanceof NoClassDefFoundError
+        Throwable cause = first.getCause();
+        boolean isAnew = thrown.getClass() == first.getClass() && cause != null
+                && (thrown.getCause() == null || isLost(cause, thrown.getCause()));
+        return isAnew ? own(rule, first) : thrown;
+    }
+
+    /** Whether the machine threw that it cannot find the class of what was thrown first. */
+    private static boolean isLost(Throwable first, Throwable thrown) {
+        return thrown instanceof NoClassDefFoundError
                 && Classes.internal(first.getClass()).equals(thrown.getMessage());
-        return isLost ? own(Own.LOST, first) : thrown;
+    }
+
+    // Dynamic constants.
+
+    /** Begins an attempt at a constant, which has the next serial. */
+    int begin(int number) {
+        DynamicConstant constant = constants.get(number);
+        constant.serial = constant.serial == 0 ? ++constantAttempts : constant.serial;
+        return number;
+    }
+
+    /** The value that the script of a constant gives; the machine makes it a value of the constant's type. */
+    Object give(int number, Class<?> type, Object[] arguments) throws Throwable {
+        DynamicConstant constant = constants.get(number);
+        if (constant.thrown != null && isOwn) {
+            throw own(Own.RECORDED, constant.thrown);
+        }
+        try {
+            if (constant.isRefused(this)) {
+                throw own(constant.fault.rule(), constant.fault.thrown());
+            }
+            List<List<String>> script = scripts.get(constant.view.bootstrap().reference());
+            return new Attempt(this, constant.serial, constant.view.name(), type, arguments, false).valueOf(script);
+        } catch (Throwable thrown) {
+            constant.thrown = thrown;
+            throw thrown;
+        }
+    }
+
+    /** Notes that a static argument is refused; a number for it. */
+    int refuse(Fault fault) {
+        refused.add(fault);
+        return refused.size() - 1;
+    }
+
+    Throwable refused(int number) {
+        return own(refused.get(number).rule(), refused.get(number).thrown());
+    }
+
+    DynamicConstant constant(Object argument) {
+        return argument instanceof ConstantNamed named ? constants.get(named.number()) : null;
+    }
+
+    /** Settles the constants that a site asks for; none where it has a fault before its static arguments. */
+    private DynamicConstant settleAll(Site site, Throwable thrown) {
+        boolean asksNone = ends(new Resolution(this).faultBeforeArguments(site.view));
+        return asksNone ? null : settleAll(site.view.arguments(), thrown);
+    }
+
+    /** Settles the constants among static arguments up to the first that is an error, which is the answer. */
+    private DynamicConstant settleAll(List<Object> arguments, Throwable thrown) {
+        for (Object argument : arguments) {
+            DynamicConstant constant = constant(argument);
+            if (constant == null && ends(new Resolution(this).faultOfArgument(argument))) {
+                return null;
+            }
+            if (constant != null && !isValue(constant, thrown)) {
+                return constant;
+            }
+        }
+        return null;
+    }
+
+    /** Whether there is a fault here, so that what comes after it is not resolved. */
+    private boolean ends(Fault fault) {
+        return fault != null && (isOwn || fault.isForMachine());
+    }
+
+    /** Whether the machine has a value of a constant that a site has asked for, which threw this, or null. */
+    private boolean isValue(DynamicConstant constant, Throwable thrown) {
+        if (!constant.isSettled) {
+            constant.isSettled = true;
+            // (where the machine finds no bootstrap method, or not the type, nothing has begun the attempt)
+            begin(constant.view.number());
+            List<Object> arguments = ends(constant.fault) ? List.of() : constant.view.arguments();
+            DynamicConstant failing = settleAll(arguments, thrown);
+            try {
+                constant.value = classes.constantCaller(constant, this).constant();
+            } catch (Throwable found) {
+                Throwable first = thrown == null ? found : thrown;
+                // (an argument that was an error before this site asked for it may have been thrown anew)
+                constant.error = failing == null || !isOwn ? first : failing.error;
+            }
+        }
+        return constant.error == null;
     }
 
     /** Links a site: runs its script, or calls the bootstrap method of concatenations. */
@@ -383,18 +519,27 @@ final class Run {
 
     private void runScript(Site site, Request request) throws Throwable {
         List<List<String>> script = scripts.get(site.view.bootstrap().reference());
-        var attempt = new Attempt(this, site, request, false);
+        var attempt = attempt(site, request, false);
         site.target = attempt.targetOf(script);
         if (attempt.orderMatters) {
-            site.inOrder = new Attempt(this, site, request, true).targetOf(script);
+            site.inOrder = attempt(site, request, true).targetOf(script);
         }
     }
+
+    private Attempt attempt(Site site, Request request, boolean isInOrder) {
+        return new Attempt(this, site.serial, site.view.name(), request.type(), request.arguments(), isInOrder);
+    }
 }
+
+/** What a class file has of a run. */
+record Members(List<Site> sites, List<DynamicConstant> constants) {}
 
 /** A call site of a run, and what became of it. */
 final class Site {
     final int number;
     final SiteView view;
+    /** What its class file has. */
+    final Members file;
     /** The number of its attempt; 0 before. */
     long serial;
     /** What executes an invokedynamic instruction that names what the site names; null where mh refuses the site. */
@@ -408,9 +553,10 @@ final class Site {
     /** What the first call threw because the site was not linked. */
     Throwable error;
 
-    Site(int number, SiteView view) {
+    Site(int number, SiteView view, Members file) {
         this.number = number;
         this.view = view;
+        this.file = file;
     }
 
     boolean isLinked() {
@@ -426,7 +572,81 @@ final class Site {
     }
 }
 
-/** What is wrong with what a site names: a rule of mh's own, or null where it is not there and the machine says so. */
+/** A dynamic constant of a run, and what became of it. */
+final class DynamicConstant {
+    final ConstantView view;
+    /** What its class file has. */
+    final Members file;
+    /** What is wrong before its static arguments are resolved; null where nothing is. */
+    Fault fault;
+    /** The number of its attempt; 0 before. */
+    long serial;
+    /** What its script threw. */
+    Throwable thrown;
+    /** Whether the machine was asked for what is recorded of it. */
+    boolean isSettled;
+    Object value;
+    /** What a call site threw that asked for it; null where it has a value. */
+    Throwable error;
+
+    DynamicConstant(ConstantView view, Members file) {
+        this.view = view;
+        this.file = file;
+    }
+
+    /** Whether a rule of mh's own refuses it before its static arguments are resolved. */
+    boolean isRefused(Run run) {
+        return run.isOwn && fault != null && !fault.isForMachine();
+    }
+
+    String line(Run run) {
+        if (serial == 0) {
+            return "constant " + view.number() + " none\n";
+        }
+        String what = error == null
+                ? "value " + run.literals.show(value, Object.class)
+                : "error " + run.exceptions.show(error);
+        return "constant " + view.number() + " serial " + serial + " " + what + "\n";
+    }
+}
+
+/** How deep dynamic constants stand over those among their static arguments. */
+final class Depths {
+    private static final int MOST = 64;
+
+    /** The depth of each constant; 0 where it has none. */
+    private int[] depths;
+
+    Depths(List<DynamicConstant> constants) {
+        depths = new int[constants.size()];
+        for (int round = 0; round < MOST; round++) {
+            depths = constants.stream().mapToInt(this::next).toArray();
+        }
+    }
+
+    boolean isTooDeep(DynamicConstant constant) {
+        return depths[constant.view.number()] == 0;
+    }
+
+    private int next(DynamicConstant constant) {
+        int most = 0;
+        for (Object argument : constant.view.arguments()) {
+            if (argument instanceof ConstantNamed named) {
+                int depth = depths[named.number()];
+                if (depth == 0) {
+                    return 0;
+                }
+                most = Math.max(most, depth);
+            }
+        }
+        return most + 1;
+    }
+}
+
+/**
+ * What is wrong with what a site or a constant names: a rule of mh's own, or null where it is not
+ * there and the machine says so.
+ */
 record Fault(Own rule, Throwable thrown) {
     boolean isForMachine() {
         return rule == null;
@@ -441,23 +661,42 @@ final class Resolution {
         this.run = run;
     }
 
-    /** The first fault of a site; null where it has none. */
+    /** The first fault of a site that does not depend on dynamic constants; null where it has none. */
     Fault firstFault(SiteView site) {
-        Stream<Fault> faults = Stream.of(
-                faultOfBootstrap(site.bootstrap()), faultOfTypes(site.descriptor()), faultOfText(site.name()));
-        return Stream.concat(faults, site.arguments().stream().map(this::faultOfArgument))
-                .filter(fault -> fault != null).findFirst().orElse(null);
+        Stream<Object> known = site.arguments().stream().takeWhile(argument -> !(argument instanceof ConstantNamed));
+        return first(Stream.concat(Stream.of(site).map(this::faultBeforeArguments), known.map(this::faultOfArgument)));
     }
 
-    private Fault faultOfBootstrap(HandleTo bootstrap) {
+    /** The first fault of a site before its static arguments; null where it has none. */
+    Fault faultBeforeArguments(SiteView site) {
+        boolean isBuiltIn = Concatenation.isLinkedBy(site.bootstrap());
+        Fault ofBootstrap = faultOfBootstrap(site.bootstrap(), isBuiltIn);
+        return first(Stream.of(ofBootstrap, faultOfTypes(site.descriptor()), faultOfText(site.name())));
+    }
+
+    private static Fault first(Stream<Fault> faults) {
+        return faults.filter(fault -> fault != null).findFirst().orElse(null);
+    }
+
+    /** The first fault of a dynamic constant before its static arguments; null where it has none. */
+    Fault faultOf(ConstantView constant, boolean isTooDeep) {
+        if (isTooDeep) {
+            return new Fault(Own.DEPTH, run.exceptions.make(StackOverflowError.class, "constant depth"));
+        }
+        boolean isType = Descriptors.isType(constant.descriptor());
+        Fault ofType = isType ? faultOfTypes(constant.descriptor()) : unsupported(Own.TYPES, "type");
+        return first(Stream.of(faultOfBootstrap(constant.bootstrap(), false), ofType, faultOfText(constant.name())));
+    }
+
+    private Fault faultOfBootstrap(HandleTo bootstrap, boolean isBuiltIn) {
         if (bootstrap.kind() != HandleTo.STATIC) {
             return unsupported(Own.CONSTANTS, "constant");
         }
-        boolean isThere = Concatenation.isLinkedBy(bootstrap) || run.scripts.containsKey(bootstrap.reference());
-        return isThere ? null : new Fault(null, null);
+        return isBuiltIn || run.scripts.containsKey(bootstrap.reference()) ? null : new Fault(null, null);
     }
 
-    private Fault faultOfArgument(Object constant) {
+    /** What is wrong with a static argument that is no dynamic constant; null where nothing is. */
+    Fault faultOfArgument(Object constant) {
         if (constant instanceof String text) {
             return faultOfText(text);
         } else if (constant instanceof TypeNamed type) {
@@ -467,7 +706,7 @@ final class Resolution {
         } else if (constant instanceof HandleTo handle) {
             return faultOfHandle(handle);
         }
-        boolean isLeftOut = constant instanceof Float || constant instanceof Double || constant instanceof LeftOut;
+        boolean isLeftOut = constant instanceof Float || constant instanceof Double;
         return isLeftOut ? unsupported(Own.CONSTANTS, "constant") : null;
     }
 
@@ -572,28 +811,50 @@ final class Attempt {
     private final long serial;
     private final boolean isInOrder;
 
-    Attempt(Run run, Site site, Request request, boolean isInOrder) {
+    Attempt(Run run, long serial, String name, Object type, Object[] arguments, boolean isInOrder) {
         this.run = run;
         this.resolution = new Resolution(run);
-        this.arguments = request.arguments();
-        this.serial = site.serial;
+        this.arguments = arguments;
+        this.serial = serial;
         this.isInOrder = isInOrder;
-        held.put("type", request.type());
-        held.put("name", site.view.name());
+        held.put("type", type);
+        held.put("name", name);
     }
 
+    /** The handle that a script returns. */
     MethodHandle targetOf(List<List<String>> script) throws Throwable {
+        runLines(script);
+        List<String> end = script.get(script.size() - 1);
+        if (end.get(0).equals("value")) {
+            throw run.exceptions.make(ClassCastException.class, "value");
+        }
+        return handle(end.get(1)).handle();
+    }
+
+    /** The value that a script gives. */
+    Object valueOf(List<List<String>> script) throws Throwable {
+        if (run.isOwn && script.stream().anyMatch(Attempt::makesHandle)) {
+            throw run.own(Own.HANDLES, run.exceptions.make(UnsupportedOperationException.class, "handle"));
+        }
+        runLines(script);
+        List<String> end = script.get(script.size() - 1);
+        return end.get(0).equals("value") ? value(end.get(1)) : handle(end.get(1)).handle();
+    }
+
+    private static boolean makesHandle(List<String> line) {
+        return line.get(0).equals("return") || line.get(0).equals("let") && !line.get(2).equals("serial");
+    }
+
+    /** The lines of a script before its end, and its end if that throws. */
+    private void runLines(List<List<String>> script) throws Throwable {
         for (List<String> line : script) {
             switch (line.get(0)) {
                 case "let" -> held.put(line.get(1), assigned(line.subList(2, line.size())));
                 case "failmod" -> failIf(serial % Long.parseLong(line.get(1)) == Long.parseLong(line.get(2)));
                 case "raise" -> throw raised(line.get(1), line.get(2));
-                default -> {
-                    return handle(line.get(1)).handle();
-                }
+                default -> { }
             }
         }
-        throw new IllegalStateException("a script without an end");
     }
 
     private void failIf(boolean fails) throws Throwable {
@@ -695,7 +956,8 @@ final class Attempt {
             return run.literals.read(token);
         }
         Object content = content(token);
-        return content instanceof String ? content : sorted(Number.class, content);
+        boolean isValue = content == null || content instanceof String || Primitive.wraps(content.getClass());
+        return isValue ? content : sorted(Number.class, content);
     }
 
     private Class<?> type(String token) throws Throwable {
@@ -1009,11 +1271,12 @@ final class Concatenation {
         return bootstrap.reference().equals(FACTORY);
     }
 
-    MethodHandle target(Request request) throws Throwable {
-        MethodHandle joined = linked(request, request.type());
+    MethodHandle target(Request asked) throws Throwable {
         if (!run.isOwn) {
-            return joined;
+            return linked(asked, asked.type());
         }
+        var request = new Request(asked.caller(), asked.name(), asked.type(), withTexts(asked.arguments()));
+        linked(request, request.type());
         checkConstants(request.arguments());
         return limited(withTexts(linked(request, erased(request.type())), request.type()));
     }
@@ -1027,9 +1290,27 @@ final class Concatenation {
         return ((CallSite) factory.invokeWithArguments(words)).getTarget();
     }
 
+    /** The recipe and the constants, with mh's texts for null and for a half of a surrogate pair. */
+    private Object[] withTexts(Object[] arguments) throws Throwable {
+        Object[] texts = arguments.clone();
+        for (int i = 0; i < texts.length; i++) {
+            if (texts[i] == null) {
+                run.count(Own.NULLS);
+                texts[i] = "null";
+            } else if (texts[i] instanceof Character unit) {
+                texts[i] = whole(unit);
+            }
+        }
+        if (arguments.length > 0 && arguments[0] == null) {
+            throw run.exceptions.make(ClassCastException.class, "arguments");
+        }
+        return texts;
+    }
+
     /** mh has no text for a class, a type or a handle. */
     private void checkConstants(Object[] arguments) throws Throwable {
-        boolean areValues = Arrays.stream(arguments).allMatch(it -> it instanceof Number || it instanceof String);
+        boolean areValues = Arrays.stream(arguments)
+                .allMatch(it -> it instanceof String || Primitive.wraps(it.getClass()));
         if (!areValues) {
             throw run.own(Own.CLASSES, run.exceptions.make(UnsupportedOperationException.class, "constant"));
         }
@@ -1488,7 +1769,7 @@ final class Descriptors {
     static final int MOST_SLOTS = 254;
 
     private static final Pattern TYPE = Pattern.compile("\\[*(?:[BCDFIJSZV]|L[^;]+;)");
-    private static final Pattern ARRAY = Pattern.compile("\\[{1,255}(?:[BCDFIJSZ]|L[^;.\\[]+;)");
+    private static final Pattern FIELD = Pattern.compile("\\[{0,255}(?:[BCDFIJSZ]|L[^;.\\[]+;)");
     private static final Pattern LEFT_OUT = Pattern.compile("\\[*[DF]|\\[\\[.*", Pattern.DOTALL);
     private static final Pattern CLASS = Pattern.compile("L([^;]+);");
 
@@ -1499,8 +1780,13 @@ final class Descriptors {
         return TYPE.matcher(text).results().map(MatchResult::group).toList();
     }
 
+    /** Whether a text is the descriptor of one type. */
+    static boolean isType(String text) {
+        return FIELD.matcher(text).matches();
+    }
+
     static boolean isArray(String text) {
-        return ARRAY.matcher(text).matches();
+        return text.startsWith("[") && isType(text);
     }
 
     /** Whether it is a type that mh lacks. */
@@ -1557,6 +1843,7 @@ final class Classes extends ClassLoader {
     private final Map<Class<?>, Class<?>> whole = new HashMap<>();
     private final Map<String, Caller> callers = new HashMap<>();
     private final Map<Leaf, MethodHandle> handles = new HashMap<>();
+    private final Map<Members, Class<?>> files = new IdentityHashMap<>();
 
     Classes(Manifest manifest) {
         super(Classes.class.getClassLoader());
@@ -1728,21 +2015,40 @@ final class Classes extends ClassLoader {
 
     /** What executes an invokedynamic instruction that names what a site names. */
     Caller siteCaller(Site site, Run run) {
-        return new Caller(define(new SiteBytes(run).of(site)));
+        boolean isAlone = site.file.constants().isEmpty();
+        Class<?> made = isAlone ? define(new SiteBytes(run).of(site)) : of(site.file, run);
+        return new Caller(made, "site" + site.number);
+    }
+
+    /** What loads a constant. */
+    Caller constantCaller(DynamicConstant constant, Run run) {
+        return new Caller(of(constant.file, run), "constant" + constant.view.number());
+    }
+
+    /** The made class that has the constants of a class file, and its sites, so that they share them. */
+    private Class<?> of(Members file, Run run) {
+        return files.computeIfAbsent(file, it -> define(new SiteBytes(run).of(it, files.size())));
     }
 }
 
-/** The methods of a made class that calls handles by one type, or of one that has an invokedynamic instruction. */
+/** The methods of a made class that calls handles by one type, or that has sites and constants. */
 final class Caller {
     private final MethodHandle exact;
     private final MethodHandle generic;
     private final MethodHandle site;
+    private final MethodHandle constant;
 
     Caller(Class<?> made) {
+        this(made, "");
+    }
+
+    /** With the name of the method that has the instruction. */
+    Caller(Class<?> made, String name) {
         MethodType ofHandle = MethodType.methodType(Object.class, MethodHandle.class, Object[].class);
         exact = method(made, "exact", ofHandle);
         generic = method(made, "generic", ofHandle);
-        site = method(made, "site", MethodType.methodType(Object.class, Object[].class));
+        site = method(made, name, MethodType.methodType(Object.class, Object[].class));
+        constant = method(made, name, MethodType.methodType(Object.class));
     }
 
     private static MethodHandle method(Class<?> made, String name, MethodType type) {
@@ -1766,6 +2072,11 @@ final class Caller {
     /** Executes the invokedynamic instruction. */
     Object site(Object[] arguments) throws Throwable {
         return site.invokeExact(arguments);
+    }
+
+    /** Executes the instruction that loads a constant. */
+    Object constant() throws Throwable {
+        return constant.invokeExact();
     }
 }
 
@@ -1872,6 +2183,8 @@ final class ClassBytes {
 
     private static final int ACONST_NULL = 1;
     private static final int SIPUSH = 17;
+    private static final int LDC_W = 19;
+    private static final int LDC2_W = 20;
     private static final int ALOAD = 25;
     private static final int AALOAD = 50;
     private static final int AASTORE = 83;
@@ -1893,7 +2206,7 @@ final class ClassBytes {
     private int poolCount = 1;
     private final Bytes methods = new Bytes();
     private int methodCount;
-    private Bytes bootstrap;
+    private final List<Bytes> bootstraps = new ArrayList<>();
 
     private ClassBytes(String name, String parent) {
         this.name = name;
@@ -2093,37 +2406,73 @@ final class ClassBytes {
     }
 
     /** A method with an invokedynamic instruction of a type, and its bootstrap method with static arguments. */
-    void site(String type, int bootstrapHandle, List<Integer> arguments) {
+    void site(String method, String type, int bootstrapHandle, List<Integer> arguments) {
         List<String> types = Descriptors.typesOf(type);
         Bytes code = new Bytes();
         unpacked(code, types.subList(0, types.size() - 1), 0);
-        code.u1(INVOKEDYNAMIC).u2(pair(18, 0, nameAndType("site", type))).u2(0);
+        int number = place();
+        put(number, bootstrapHandle, arguments);
+        code.u1(INVOKEDYNAMIC).u2(pair(18, number, nameAndType("site", type))).u2(0);
         boxed(code, types.get(types.size() - 1));
-        method(PUBLIC | STATIC, "site", "([Ljava/lang/Object;)Ljava/lang/Object;", code.u1(ARETURN));
-        bootstrap = new Bytes().u2(1).u2(bootstrapHandle).u2(arguments.size());
+        method(PUBLIC | STATIC, method, "([Ljava/lang/Object;)Ljava/lang/Object;", code.u1(ARETURN));
+    }
+
+    /** The number of a bootstrap method that is put later. */
+    int place() {
+        bootstraps.add(null);
+        return bootstraps.size() - 1;
+    }
+
+    /** Puts a bootstrap method with its static arguments. */
+    void put(int number, int handle, List<Integer> arguments) {
+        Bytes bootstrap = new Bytes().u2(handle).u2(arguments.size());
         arguments.forEach(bootstrap::u2);
+        bootstraps.set(number, bootstrap);
+    }
+
+    /** A dynamic constant of a type, whose bootstrap method has a number. */
+    int dynamic(int number, String type) {
+        return pair(17, number, nameAndType("constant", type));
+    }
+
+    /** A method that loads a constant of a type. */
+    void load(String method, int index, String type) {
+        Bytes code = new Bytes().u1(Descriptors.slotsOf(type) == 2 ? LDC2_W : LDC_W).u2(index);
+        boxed(code, type);
+        method(PUBLIC | STATIC, method, "()Ljava/lang/Object;", code.u1(ARETURN));
     }
 
     byte[] bytes() {
         Bytes rest = new Bytes().u2(PUBLIC | SUPER).u2(classNamed(name)).u2(classNamed(parent)).u2(0).u2(0);
-        rest.u2(methodCount).all(methods).u2(bootstrap == null ? 0 : 1);
-        if (bootstrap != null) {
-            rest.u2(utf8("BootstrapMethods")).u4(bootstrap.length()).all(bootstrap);
+        rest.u2(methodCount).all(methods).u2(bootstraps.isEmpty() ? 0 : 1);
+        if (!bootstraps.isEmpty()) {
+            Bytes contents = new Bytes().u2(bootstraps.size());
+            bootstraps.forEach(contents::all);
+            rest.u2(utf8("BootstrapMethods")).u4(contents.length()).all(contents);
         }
         return new Bytes().u4(MAGIC).u2(0).u2(MAJOR).u2(poolCount).all(pool).all(rest).array();
     }
 }
 
-/** Writes the class that has the invokedynamic instruction of a site. */
+/** Writes the class of a site, which has its invokedynamic instruction, or that of a class file. */
 final class SiteBytes {
     private static final String ABSENT = "absent";
+    private static final String PROGRAM = "AgainstJava";
+    private static final String ANY = "Ljava/lang/Object;";
+    /** What the bootstrap methods of constants take first. */
+    private static final String GIVEN = "(Ljava/lang/invoke/MethodHandles$Lookup;Ljava/lang/String;Ljava/lang/Class;";
 
+    private final Run run;
+    private final Resolution resolution;
+    private final Map<DynamicConstant, Integer> constants = new IdentityHashMap<>();
     private final Classes classes;
     private final Map<String, Leaf> leaves;
     private final Set<String> scripts;
     private final boolean isOwn;
 
     SiteBytes(Run run) {
+        this.run = run;
+        resolution = new Resolution(run);
         classes = run.classes;
         leaves = run.leaves;
         scripts = run.scripts.keySet();
@@ -2132,20 +2481,82 @@ final class SiteBytes {
 
     ClassBytes of(Site site) {
         ClassBytes bytes = ClassBytes.plain("made/Site" + site.number, "java/lang/Object");
+        put(bytes, site);
+        return bytes;
+    }
+
+    /** The class of all sites of a class file that the machine links, and of its constants. */
+    ClassBytes of(Members file, int number) {
+        ClassBytes bytes = ClassBytes.plain("made/File" + number, "java/lang/Object");
+        for (DynamicConstant constant : file.constants()) {
+            bytes.load("constant" + constant.view.number(), constant(bytes, constant), typeOf(constant));
+        }
+        for (Site site : file.sites()) {
+            Fault fault = resolution.firstFault(site.view);
+            if (fault == null || fault.isForMachine() || !isOwn) {
+                put(bytes, site);
+            }
+        }
+        return bytes;
+    }
+
+    private void put(ClassBytes bytes, Site site) {
         List<Integer> arguments = new ArrayList<>(List.of(bytes.integer(site.number)));
         site.view.arguments().forEach(argument -> arguments.add(argument(bytes, argument)));
-        bytes.site(classes.renamed(site.view.descriptor()), bootstrap(bytes, site.view.bootstrap()), arguments);
-        return bytes;
+        String type = classes.renamed(site.view.descriptor());
+        bytes.site("site" + site.number, type, bootstrap(bytes, site.view.bootstrap()), arguments);
     }
 
     /** The bootstrap method of this program; where mh has no script of the name, a method that is not there. */
     private int bootstrap(ClassBytes bytes, HandleTo handle) {
         if (!scripts.contains(handle.reference()) && !Concatenation.isLinkedBy(handle)) {
-            return bytes.handle(HandleTo.STATIC, owner(handle), ABSENT, "()V");
+            return absent(bytes, handle);
         }
         String descriptor = "(Ljava/lang/invoke/MethodHandles$Lookup;Ljava/lang/String;"
                 + "Ljava/lang/invoke/MethodType;[Ljava/lang/Object;)Ljava/lang/invoke/CallSite;";
-        return bytes.handle(HandleTo.STATIC, "AgainstJava", "link", descriptor);
+        return bytes.handle(HandleTo.STATIC, PROGRAM, "link", descriptor);
+    }
+
+    private int absent(ClassBytes bytes, HandleTo handle) {
+        return bytes.handle(HandleTo.STATIC, owner(handle), ABSENT, "()V");
+    }
+
+    /** A dynamic constant; one that mh refuses before its static arguments has none here, and any type. */
+    private int constant(ClassBytes bytes, DynamicConstant constant) {
+        Integer known = constants.get(constant);
+        if (known != null) {
+            return known;
+        }
+        int bootstrap = bytes.place();
+        int index = bytes.dynamic(bootstrap, typeOf(constant));
+        constants.put(constant, index);
+        List<Integer> arguments = new ArrayList<>(List.of(called(bytes, "begin", constant.view.number(), "I")));
+        if (!constant.isRefused(run)) {
+            constant.view.arguments().forEach(argument -> arguments.add(argument(bytes, argument)));
+        }
+        bytes.put(bootstrap, giver(bytes, constant), arguments);
+        return index;
+    }
+
+    /** The type of a constant; any, where its bootstrap method is not called. No class file has a text that is no type. */
+    private String typeOf(DynamicConstant constant) {
+        String type = constant.view.descriptor();
+        return constant.isRefused(run) || !Descriptors.isType(type) ? ANY : classes.renamed(type);
+    }
+
+    private int giver(ClassBytes bytes, DynamicConstant constant) {
+        HandleTo handle = constant.view.bootstrap();
+        boolean isThere = constant.isRefused(run) || scripts.contains(handle.reference());
+        String descriptor = GIVEN + "[" + ANY + ")" + ANY;
+        return isThere ? bytes.handle(HandleTo.STATIC, PROGRAM, "give", descriptor) : absent(bytes, handle);
+    }
+
+    /** A constant whose bootstrap method is a method of this program that takes a number. */
+    private int called(ClassBytes bytes, String method, int number, String type) {
+        int bootstrap = bytes.place();
+        int handle = bytes.handle(HandleTo.STATIC, PROGRAM, method, GIVEN + "I)" + ANY);
+        bytes.put(bootstrap, handle, List.of(bytes.integer(number)));
+        return bytes.dynamic(bootstrap, type);
     }
 
     /** The class of a handle; one that is there for an owner that has scripts alone. */
@@ -2156,6 +2567,13 @@ final class SiteBytes {
     }
 
     private int argument(ClassBytes bytes, Object constant) {
+        if (constant instanceof ConstantNamed) {
+            return constant(bytes, run.constant(constant));
+        }
+        Fault fault = resolution.faultOfArgument(constant);
+        if (isOwn && fault != null && !fault.isForMachine()) {
+            return called(bytes, "refuse", run.refuse(fault), ANY);
+        }
         if (constant instanceof Integer number) {
             return bytes.integer(number);
         } else if (constant instanceof Long number) {
@@ -2170,10 +2588,8 @@ final class SiteBytes {
             return bytes.classNamed(className(named.text()));
         } else if (constant instanceof TypeNamed type) {
             return bytes.methodType(classes.renamed(type.descriptor()));
-        } else if (constant instanceof HandleTo handle) {
-            return handle(bytes, handle);
         }
-        return bytes.integer(0);
+        return handle(bytes, (HandleTo) constant);
     }
 
     private String className(String text) {
@@ -2211,13 +2627,16 @@ record ClassNamed(String text) {}
 /** A method type constant. */
 record TypeNamed(String descriptor) {}
 
-/** A static argument that neither has: a dynamic constant. */
-record LeftOut() {}
+/** A dynamic constant as a static argument: its number over all class files. */
+record ConstantNamed(int number) {}
+
+/** What a dynamic constant names. */
+record ConstantView(int number, HandleTo bootstrap, String name, String descriptor, List<Object> arguments) {}
 
 /** What an invokedynamic instruction names. Static arguments are boxed numbers, texts or the records above. */
 record SiteView(HandleTo bootstrap, String name, String descriptor, List<Object> arguments) {}
 
-/** A class file that is read for its call sites. It is one that mh accepts. */
+/** A class file that is read for its call sites and dynamic constants. It is one that mh accepts. */
 final class ClassFile {
     /** An entry of the constant pool that names others: its tag and two numbers. */
     private record Entry(int tag, int first, int second) {}
@@ -2225,6 +2644,7 @@ final class ClassFile {
     /** A bootstrap method. */
     private record Bootstrap(int handle, int[] arguments) {}
 
+    private static final int DYNAMIC = 17;
     private static final int TABLESWITCH = 170;
     private static final int LOOKUPSWITCH = 171;
     private static final int INVOKEDYNAMIC = 186;
@@ -2240,8 +2660,12 @@ final class ClassFile {
     private Object[] pool;
     private final List<Bootstrap> bootstraps = new ArrayList<>();
     private final List<Integer> calls = new ArrayList<>();
+    /** The indexes of the dynamic constants, and how many the class files before have. */
+    private final List<Integer> dynamics = new ArrayList<>();
+    private final int first;
 
-    ClassFile(byte[] bytes) throws IOException {
+    ClassFile(byte[] bytes, int first) throws IOException {
+        this.first = first;
         in = new DataInputStream(new ByteArrayInputStream(bytes));
         in.skipNBytes(8);
         readPool();
@@ -2256,6 +2680,9 @@ final class ClassFile {
         pool = new Object[in.readUnsignedShort()];
         for (int i = 1; i < pool.length; i++) {
             int tag = in.readUnsignedByte();
+            if (tag == DYNAMIC) {
+                dynamics.add(i);
+            }
             pool[i] = switch (tag) {
                 case 1 -> in.readUTF();
                 case 3 -> in.readInt();
@@ -2329,13 +2756,36 @@ final class ClassFile {
         return calls.stream().map(this::site).toList();
     }
 
+    /** The dynamic constants in the order of their indexes. */
+    List<ConstantView> constants() {
+        return dynamics.stream().map(this::dynamic).toList();
+    }
+
     private SiteView site(int index) {
         Entry call = (Entry) pool[index];
         Entry named = (Entry) pool[call.second()];
         Bootstrap bootstrap = bootstraps.get(call.first());
-        HandleTo handle = handle((Entry) pool[bootstrap.handle()]);
-        List<Object> arguments = Arrays.stream(bootstrap.arguments()).mapToObj(this::constant).toList();
-        return new SiteView(handle, text(named.first()), text(named.second()), arguments);
+        return new SiteView(handleOf(bootstrap), text(named.first()), text(named.second()), argumentsOf(bootstrap));
+    }
+
+    private ConstantView dynamic(int index) {
+        Entry constant = (Entry) pool[index];
+        Entry named = (Entry) pool[constant.second()];
+        Bootstrap bootstrap = bootstraps.get(constant.first());
+        return new ConstantView(numberOf(index), handleOf(bootstrap), text(named.first()), text(named.second()),
+                argumentsOf(bootstrap));
+    }
+
+    private int numberOf(int index) {
+        return first + dynamics.indexOf(index);
+    }
+
+    private HandleTo handleOf(Bootstrap bootstrap) {
+        return handle((Entry) pool[bootstrap.handle()]);
+    }
+
+    private List<Object> argumentsOf(Bootstrap bootstrap) {
+        return Arrays.stream(bootstrap.arguments()).mapToObj(this::constant).toList();
     }
 
     private String text(int index) {
@@ -2358,7 +2808,7 @@ final class ClassFile {
             case 8 -> text(entry.first());
             case 15 -> handle(entry);
             case 16 -> new TypeNamed(text(entry.first()));
-            default -> new LeftOut();
+            default -> new ConstantNamed(numberOf(index));
         };
     }
 }

@@ -2,7 +2,8 @@
 
 Every kind of leaf, script line, literal and static argument is among them. Scripts are well typed but for some lines that are made
 without a look at types, most of which are refused when the script runs, and some sites name what is not there or what mh leaves out.
-Other sites are string concatenations of random recipes, a fifth of which have something wrong.
+Other sites are string concatenations of random recipes, a fifth of which have something wrong. Some static arguments are dynamic
+constants, which may have others among their own.
 """
 import random
 import struct
@@ -39,6 +40,8 @@ BUILT_IN = {
 FINAL = {STRING, *WRAPPERS.values()}
 BOOTSTRAP = ("(Ljava/lang/invoke/MethodHandles$Lookup;Ljava/lang/String;Ljava/lang/invoke/MethodType;)"
              "Ljava/lang/invoke/CallSite;")
+# The descriptor of the bootstrap methods of dynamic constants.
+OF_CONSTANT = "(Ljava/lang/invoke/MethodHandles$Lookup;Ljava/lang/String;Ljava/lang/Class;)Ljava/lang/Object;"
 # The bootstrap method that is built in, and the most slots of its sites.
 FACTORY = "java/lang/invoke/StringConcatFactory"
 JOINS = ("(Ljava/lang/invoke/MethodHandles$Lookup;Ljava/lang/String;Ljava/lang/invoke/MethodType;Ljava/lang/String;"
@@ -63,6 +66,10 @@ NEAR_BOUNDS = sorted({number + more for bounds in BOUNDS.values() for number in 
 # The oldest and the newest class files that are read.
 MAJORS = 45, 65
 CHARACTERS = "abcxyz09 ,\n\\'\"#:;[]é\u0000\u20ac\U0001f600"
+
+
+# What is no type of a dynamic constant: types that mh lacks, texts that are no type, and an unknown class.
+ODD_TYPES = ["F", "D", "[[I", "[F", "V", "(I)I", "", "II", "x", "Lno/Such;"]
 
 
 class TooWide(Exception):
@@ -96,6 +103,14 @@ class Site(NamedTuple):
     descriptor: str
     type: object
     arguments: list
+
+
+class Dynamic:
+    """What a dynamic constant names (JVMS SE 17, 4.4.10); its static arguments may name it, so they can be put in later."""
+
+    def __init__(self, handle, name, descriptor, arguments=()):
+        self.handle, self.name, self.descriptor = handle, name, descriptor
+        self.arguments = list(arguments)
 
 
 def of_class(name):
@@ -157,6 +172,8 @@ class World:
         self.parents = dict(BUILT_IN)
         self.lines = []
         self.leaves = []
+        # (the dynamic constants that static arguments may be)
+        self.constants = []
         for number in range(rng.randint(2, 5)):
             self.declare(f"demo/{rng.choice('ABC')}{number}")
         self.classes = list(self.parents)
@@ -691,6 +708,54 @@ class Script:
         return "\n".join([f"script demo/Boot {self.name} {BOOTSTRAP}", *self.lines, "end", ""])
 
 
+class ConstScript:
+    """A script that gives a dynamic constant its value, which mostly has the constant's type."""
+
+    def __init__(self, world, name, descriptor, count):
+        self.world, self.rng, self.name, self.descriptor = world, world.rng, name, descriptor
+        self.lines = []
+        self.registers = ["name", *(f"a{number}" for number in range(count))]
+        if self.chance(0.12):
+            self.lines.append("let n serial")
+            self.registers.append("n")
+        if self.chance(0.05):
+            modulus = self.rng.randint(1, 3)
+            self.lines.append(f"failmod {modulus} {self.rng.randrange(modulus)}")
+        if self.chance(0.04):
+            self.lines.append(f"let h leaf {self.rng.choice(world.leaves).reference}")
+        self.lines.append(self.end())
+
+    def chance(self, share):
+        return self.rng.random() < share
+
+    def end(self):
+        if self.chance(0.1):
+            name = self.rng.choice([*self.world.below(THROWABLE), OBJECT, "no/Such"])
+            return f"raise {name} s:{escaped(self.world.text()[:9])}"
+        if self.lines and self.lines[-1].startswith("let h") and self.chance(0.5):
+            return "return h"
+        if self.chance(0.4):
+            return f"value {self.rng.choice(self.registers)}"
+        return f"value {self.literal()}"
+
+    def literal(self):
+        """A number in its box, a text or null."""
+        if self.chance(0.05):
+            return self.rng.choice(["null", "a9", "s:x", "I:1", "J:2", "Z:true", "B:-128", "C:65535", "H:-32768"])
+        if is_primitive(self.descriptor):
+            primitive = self.rng.choice(narrower(self.descriptor))
+            return f"{MARKS[primitive].upper()}:{self.world.number(primitive)}"
+        wanted = of_class(OBJECT) if self.descriptor in ODD_TYPES else self.descriptor
+        fitting = [it for it in (self.world.literal(wanted) for _ in range(6)) if it[0] in "ZBCHIJs"]
+        return fitting[0] if fitting else "null"
+
+    def has_serial(self):
+        return any(line.startswith(("let n serial", "failmod")) for line in self.lines)
+
+    def text(self):
+        return "\n".join([f"script demo/Boot {self.name} {OF_CONSTANT}", *self.lines, "end", ""])
+
+
 def split_reference(reference):
     owner, _, rest = reference.partition(".")
     name, _, descriptor = rest.partition(":")
@@ -735,6 +800,8 @@ class Concatenation:
         return "".join(self.rng.choice(CHARACTERS) for _ in range(self.rng.randint(0, 4)))
 
     def constant(self):
+        if self.world.constants and self.chance(0.2):
+            return "dynamic", self.rng.choice(self.world.constants)
         sort = self.rng.choice(["int", "long", "text", "text"])
         if sort == "text":
             more = "x" * 4090 if self.chance(0.05) else self.rng.choice(["", ARGUMENT, CONSTANT])
@@ -788,7 +855,7 @@ class ClassFile:
     """A class file with call sites (JVMS SE 17, chapter 4)."""
 
     def __init__(self, name, major=61):
-        self.entries, self.count, self.known = b"", 1, {}
+        self.entries, self.count, self.known, self.dynamics = b"", 1, {}, {}
         self.name, self.major, self.bootstraps, self.code = name, major, [], b""
 
     def entry(self, bytes, size=1):
@@ -823,14 +890,27 @@ class ClassFile:
             return self.entry(struct.pack(">Bd", 6, *parts), 2)
         if sort == "handle":
             return self.handle(*parts)
+        if sort == "dynamic":
+            return self.dynamic(*parts)
         return self.names({"text": 8, "class": 7, "type": 16}[sort], self.utf8(*parts))
 
+    def bootstrap(self, handle, arguments):
+        """A bootstrap method with its static arguments."""
+        indexes = [self.handle(*handle), len(arguments), *(self.constant(*it) for it in arguments)]
+        return struct.pack(f">{len(indexes)}H", *indexes)
+
+    def dynamic(self, constant):
+        """A dynamic constant. Its entry stands before those of its static arguments, among which it may be itself."""
+        if constant not in self.dynamics:
+            at = len(self.bootstraps)
+            self.bootstraps.append(b"")
+            self.dynamics[constant] = self.names(17, at, self.names(12, self.utf8(constant.name), self.utf8(constant.descriptor)))
+            self.bootstraps[at] = self.bootstrap(constant.handle, constant.arguments)
+        return self.dynamics[constant]
+
     def add(self, site):
-        handle = self.handle(*site.handle)
-        arguments = [self.constant(*it) for it in site.arguments]
-        self.bootstraps.append(struct.pack(f">{len(arguments) + 2}H", handle, len(arguments), *arguments))
-        name_and_type = self.names(12, self.utf8(site.name), self.utf8(site.descriptor))
-        call = self.names(18, len(self.bootstraps) - 1, name_and_type)
+        self.bootstraps.append(self.bootstrap(site.handle, site.arguments))
+        call = self.names(18, len(self.bootstraps) - 1, self.names(12, self.utf8(site.name), self.utf8(site.descriptor)))
         self.code += b"\xba" + struct.pack(">HH", call, 0)
 
     def pad(self):
@@ -861,6 +941,8 @@ class Input:
         self.world = World(self.rng)
         scripts = [Script(self.world, f"link{number}") for number in range(size * self.rng.randint(1, 3))]
         types = [it.write() for it in scripts]
+        if self.chance(0.6):
+            scripts += self.make_constants(self.rng.randint(1, 6))
         # (which thread comes first shows only where a script looks at the number of the attempt)
         self.most_threads = 1 if any(it.has_serial() for it in scripts) else 3
         self.sites = [self.site(script, type) for script, type in zip(scripts, types) for _ in range(self.rng.randint(1, 2))]
@@ -879,6 +961,58 @@ class Input:
     def chance(self, share):
         return self.rng.random() < share
 
+    def make_constants(self, count):
+        """Makes dynamic constants, which may have earlier ones as static arguments, and their scripts."""
+        scripts, constants = [], self.world.constants
+        for number in range(count):
+            descriptor = self.constant_type()
+            arguments = [self.constant_argument() for _ in range(self.rng.randint(0, 2))]
+            scripts.append(ConstScript(self.world, f"give{number}", descriptor, len(arguments)))
+            constant = Dynamic((6, "demo/Boot", f"give{number}", OF_CONSTANT), self.rng.choice("cd"), descriptor, arguments)
+            constants.append(self.faulty_constant(constant) if self.chance(0.06) else constant)
+        if self.chance(0.08):
+            # (often a ring, of one constant or of several)
+            self.rng.choice(constants).arguments.append(("dynamic", self.rng.choice(constants)))
+        if self.chance(0.05):
+            self.make_chain(self.rng.randint(61, 65))
+        return scripts
+
+    def make_chain(self, length):
+        """Makes constants each of which has the one before as static argument; each gives what the first one gives."""
+        chain = [self.rng.choice(self.world.constants)]
+        for _ in range(length):
+            first = chain[0]
+            chain.append(Dynamic(first.handle, "e", first.descriptor, [*first.arguments, ("dynamic", chain[-1])]))
+        self.world.constants += 2 * chain[-2:]
+
+    def constant_type(self):
+        if self.chance(0.04):
+            return self.rng.choice(ODD_TYPES)
+        some = self.rng.choice(["I", "J", of_class(STRING), of_class(OBJECT)])
+        return some if self.chance(0.6) else self.world.any_type()
+
+    def constant_argument(self):
+        """A static argument of a dynamic constant."""
+        if self.chance(0.03):
+            return self.wild_argument()
+        if self.world.constants and self.chance(0.6):
+            return "dynamic", self.rng.choice(self.world.constants)
+        sort = self.rng.choice(["int", "long", "text"])
+        return sort, self.world.text() if sort == "text" else int(self.world.number("I" if sort == "int" else "J"))
+
+    def faulty_constant(self, constant):
+        """A constant that names something that is not there, or that mh leaves out."""
+        kind, owner, name, descriptor = constant.handle
+        odd = self.rng.choice(["kind", "owner", "name", "surrogate"])
+        if odd == "surrogate":
+            constant.name = self.rng.choice(["\udc00", "n" * 4097])
+        else:
+            constant.handle = {
+                "kind": (self.rng.choice([5, 7, 8, 9, 1]), owner, name, descriptor), "owner": (6, "no/Such", name, descriptor),
+                "name": (6, owner, name + "x", descriptor),
+            }[odd]
+        return constant
+
     def class_files(self):
         """The sites in one or two files."""
         cut = self.rng.randint(0, len(self.sites)) if self.chance(0.3) else len(self.sites)
@@ -895,6 +1029,8 @@ class Input:
 
     def site(self, script, type):
         arguments = [self.static_argument(sort, constant) for sort, constant in script.arguments]
+        if self.world.constants and self.chance(0.3):
+            arguments.insert(self.rng.choice([0, len(arguments)]), ("dynamic", self.rng.choice(self.world.constants)))
         site = Site((6, "demo/Boot", script.name, BOOTSTRAP), self.rng.choice(["f", "apply", "n\u00e9e"]), str(type), type, arguments)
         return self.faulty(site) if self.chance(0.08) else site
 
@@ -908,10 +1044,18 @@ class Input:
             return self.wild_argument()
         if sort != "value":
             return constant
+        if world.constants and self.chance(0.6):
+            return "dynamic", self.constant_of(constant[0])
         if constant[0] == "text":
             return "text", world.text()
         sort = self.rng.choice(["int", "long"]) if self.chance(0.05) else constant[0]
         return sort, int(world.number("I" if sort == "int" else "J"))
+
+    def constant_of(self, sort):
+        """A dynamic constant; mostly one of the type that a number or a text is boxed to, if there is one."""
+        descriptors = {"int": "I", "long": "IJ", "text": of_class(STRING)}[sort]
+        fitting = [it for it in self.world.constants if it.descriptor in descriptors and it.descriptor]
+        return self.rng.choice(fitting if fitting and self.chance(0.9) else self.world.constants)
 
     def wild_argument(self):
         leaf = self.rng.choice(self.world.leaves)
