@@ -2,7 +2,7 @@
 
 use crate::{cells, concats, constants, forms, rows, scripts, types};
 use mh_base::NoMemory;
-use mh_condy_tests::Broken as BrokenConstants;
+use mh_sharing_tests::constants::Broken as BrokenConstants;
 use mh_handle::EditError;
 use mh_intern::InternError;
 use mh_steps::Broken;

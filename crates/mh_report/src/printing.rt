@@ -189,10 +189,14 @@ fn push_returned(
     }
 }
 
-// A space, and the number of a leaf.
+// A space, and the number of a leaf. A number of one digit is written together with the space.
+#[tactic(auto, using(std::proofs::lemmas::Fmt::decimal_digit))]
 fn push_next(text: &mut Vec<u8>, leaf: LeafId) -> Result<(), NoMemory>
     ensures { OnOk result (text.new.items ≡ text.old.items ++ (codes " " ++ decimal leaf.0)) }
 {
+    if leaf.0 < 10 {
+        return push(text, &[b' ', b'0' + leaf.0 as u8]);
+    }
     push(text, b" ")?;
     push_number(text, u64::from(leaf.0))
 }
