@@ -4,5 +4,3 @@ pub mod RegisterContents
 pub mod RegisterTypes
 pub mod RoomyRegisters
 pub mod RunRegisters
-pub mod OtherRegisters
-pub mod TakenRegisters

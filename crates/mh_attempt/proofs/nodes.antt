@@ -1,5 +1,4 @@
 pub mod NodeRules
-pub mod Pairs
 pub mod LineNodes
 pub mod NodeOperands
 pub mod SwitchNodes

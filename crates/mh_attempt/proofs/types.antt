@@ -1,6 +1,5 @@
 pub mod Adding
 pub mod Replacing
-pub mod PairTypes
 pub mod TypeLists
 pub mod AskingTypes
 pub mod OperandTypes

@@ -1,4 +1,3 @@
-pub mod Again
 pub mod Asked
 pub mod AskedTypes
 pub mod Cases

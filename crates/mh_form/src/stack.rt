@@ -11,7 +11,6 @@ ghost use Rattle.mh_form.specs.Run.{picked, result_at};
 ghost use Rattle.mh_form.specs.Slots.{filled, none_as_zero};
 ghost use Rattle.mh_form.specs.Stack.{begun, done, left, on_stack, slot_or_exc, with_slot, with_slots};
 
-use crate::erasure::number_slot;
 use crate::going::Going;
 use crate::leaf::typed_at;
 use crate::slots::slot_at;
@@ -102,29 +101,12 @@ impl Stack {
         self.clear();
         self.slots
             .reserve(values.len().saturating_add(ROOM_FOR_NAMES))?;
+        let alloc = self.alloc();
         for value in values.as_slice() {
-            self.push_erased(value)?;
+            let copy = value.copy(alloc)?;
+            self.push(erase(copy))?;
         }
         Ok(())
-    }
-
-    // Puts a copy of a value, as a slot, after those of the run under way. A value of each kind is
-    // written where it is copied, which takes half as many instructions.
-    #[inline(always)]
-    fn push_erased(&mut self, value: &Value) -> Result<(), NoMemory>
-        ensures { OnOk result (self.new ≡ with_slot self.old (erased value.now)) }
-    {
-        match value {
-            Value::Prim(number) => self.push(number_slot(*number)),
-            Value::Text(text) => {
-                let text = text.copy()?;
-                self.push(Slot::L(Value::Text(text)))
-            }
-            _ => {
-                let copy = value.copy(self.alloc())?;
-                self.push(Slot::L(copy))
-            }
-        }
     }
 
     /// Puts other leaf calls in place of those so far, and answers these.
@@ -283,39 +265,12 @@ impl Stack {
         ensures { OnOk result (option_map (with_slots self.old) (picked self.old.frame places.now)
             ≡ Some self.new) }
     {
+        let alloc = self.alloc();
         for place in places.as_slice() {
-            self.push_copy_at(*place)?;
+            let copy = self.at(*place).copy(alloc)?;
+            self.push(copy)?;
         }
         Ok(())
-    }
-
-    // Puts a copy of the slot at a place after all slots. A slot of each kind is written where it is
-    // copied.
-    #[inline(always)]
-    fn push_copy_at(&mut self, place: u32) -> Result<(), NoMemory>
-        requires { slice_get self.old.frame place ≢ None }
-        ensures { OnOk result (option_map (with_slot self.old) (slice_get self.old.frame place)
-            ≡ Some self.new) }
-    {
-        let alloc = self.alloc();
-        match self.at(place) {
-            Slot::I(number) => {
-                let number = *number;
-                self.push(Slot::I(number))
-            }
-            Slot::J(number) => {
-                let number = *number;
-                self.push(Slot::J(number))
-            }
-            Slot::L(Value::Text(text)) => {
-                let text = text.copy()?;
-                self.push(Slot::L(Value::Text(text)))
-            }
-            Slot::L(value) => {
-                let copy = value.copy(alloc)?;
-                self.push(Slot::L(copy))
-            }
-        }
     }
 
     // How many slots the run under way has.

@@ -1,6 +1,4 @@
 pub mod Running
-mod SharedCrossing
-mod SharedLines
 pub mod Host
 pub mod TableSerials
 mod CallTexts

@@ -1,2 +1,1 @@
 mod InHand
-pub mod Building

@@ -1,0 +1,16 @@
+//! Dynamic constants that are resolved by passes one after the other, and by threads that race.
+#![tactic(auto)]
+
+mod asking;
+mod broken;
+mod built;
+#[cfg(test)]
+mod passes;
+#[cfg(test)]
+mod racing;
+#[cfg(test)]
+mod rows;
+
+pub use asking::{Answer, Recorded, first_pass, resolve, two_passes};
+pub use broken::Broken;
+pub use built::{Built, Entry, ladder, of_entries, wide};
