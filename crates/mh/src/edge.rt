@@ -15,10 +15,10 @@ use mh_main::status::NO_MEMORY;
 use mh_main::top;
 use mh_outside::{Inputs, OpenGate, Sink, all_words, texts_of};
 use std::alloc::Global;
-use std::io;
 use std::process::ExitCode;
 use std::sync::Wait;
 use std::thread::Threads;
+use std::{io, mem};
 
 // All the words, in order. Words that are no text are refused, as an empty list of words is.
 fn words_of<W: Iterator<Item = String> + Drop>(
@@ -65,7 +65,12 @@ fn run_words<R: Threads + Wait + Sync, I: Inputs, S: Sink>(
     let Ok(texts) = texts_of(alloc, words) else {
         return ExitCode::from(NO_MEMORY);
     };
-    ExitCode::from(top(rt, alloc, &texts, inputs, sink, &OpenGate).status)
+    let answer = top(rt, alloc, &texts, inputs, sink, &OpenGate);
+    let status = answer.status;
+
+    // The process ends next, which gives all its memory back at once.
+    mem::forget(answer);
+    ExitCode::from(status)
 }
 
 /// Runs the program on the words after its name, all and in order, and ends with the status of its

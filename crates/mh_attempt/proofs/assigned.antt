@@ -4,3 +4,5 @@ pub mod RegisterContents
 pub mod RegisterTypes
 pub mod RoomyRegisters
 pub mod RunRegisters
+pub mod OtherRegisters
+pub mod TakenRegisters

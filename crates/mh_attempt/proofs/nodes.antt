@@ -1,4 +1,5 @@
 pub mod NodeRules
+pub mod Pairs
 pub mod LineNodes
 pub mod NodeOperands
 pub mod SwitchNodes

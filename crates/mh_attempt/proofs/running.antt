@@ -5,5 +5,6 @@ pub mod Running
 pub mod RunLines
 pub mod RunFails
 pub mod Endings
+pub mod LastUses
 pub mod RunEnds
 pub mod RunCalls

@@ -1,5 +1,6 @@
 pub mod Adding
 pub mod Replacing
+pub mod PairTypes
 pub mod TypeLists
 pub mod AskingTypes
 pub mod OperandTypes

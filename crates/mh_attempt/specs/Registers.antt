@@ -1,6 +1,6 @@
 -- The registers of a running script stand for a frame, in which method handles are trees.
 use denote.Ref.{Bor}
-use Rattle.std.specs.Prelude.{◌≡◌, ℕ, ◌<◌, Bool, List, [], ◌∷◌, length, flat_map, if◌then◌else◌, Option, Some, None, slice_get}
+use Rattle.std.specs.Prelude.{◌≡◌, ℕ, ◌<◌, Bool, false, pos, List, [], ◌∷◌, length, flat_map, if◌then◌else◌, Option, Some, None, slice_get}
 use Rattle.std.specs.Str.{bytes_eq}
 use Rattle.std.specs.Vec.{vec_len, vec_capacity}
 use Rattle.mh_values.specs.declared.types.Ty.{Ty}
@@ -55,6 +55,11 @@ assigned_to name h [] = record { name = name; held = h } ∷ []
 assigned_to name h (a ∷ assigned) =
     if is_named name.now a then record { name = a.name; held = h } ∷ assigned else a ∷ assigned_to name h assigned
 
+-- what is assigned once what was found under a name is taken out: a number stands in its place
+abbrev pub IsTaken : Bor (List ℕ) → Option Held → List Assignment → List Assignment → Type 0
+IsTaken name (Some h) before after = after ≡ assigned_to name (held.Number (pos 0)) before
+IsTaken name None before after = after ≡ before
+
 -- what a line assigned stands for what a register holds
 abbrev pub HoldsContent : LeafTable → Held → Content → Type 0
 HoldsContent leaves (held.Handle h) c = (t : Tree) × (c ≡ handle t) × Stands leaves h t
@@ -97,6 +102,12 @@ pub record HoldSame (old new : Registers) : Type 0 where
   pub call : new.call ≡ old.call
   pub serial : new.serial ≡ old.serial
   pub assigned : new.assigned.items ≡ old.assigned.items
+
+-- the registers hold the same under every name except this one
+pub record HoldOthers (name : List ℕ) (old new : Registers) : Type 0 where
+  pub call : new.call ≡ old.call
+  pub serial : new.serial ≡ old.serial
+  pub under : (other : List ℕ) → bytes_eq name other ≡ false → held_under other new.assigned.items ≡ held_under other old.assigned.items
 
 -- there is room for one more name
 abbrev pub HasRoomForName : Registers → Type 0

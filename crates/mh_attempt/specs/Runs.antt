@@ -1,10 +1,11 @@
 -- For proofs: no clause of a public function reaches these definitions.
 -- What the rest of a script requires, and how it changes the registers and the work.
-use Rattle.std.specs.Prelude.{◌≡◌, ℕ, ◌+◌, ◌*◌, ◌^◌, ◌<◌, List, ◌++◌, length, map, All, Result, Ok, Err}
+use Rattle.std.specs.Prelude.{◌≡◌, ℕ, ◌+◌, ◌*◌, ◌^◌, ◌<◌, List, [], ◌∷◌, ◌++◌, length, map, All, Result, Ok, Err}
 use Rattle.mh_values.specs.declared.types.MethodTy.{MethodTy}
 use Rattle.mh_intern.specs.Exchanges.{Exchanges}
 use Rattle.mh_intern.specs.Views.{HoldView}
 use Rattle.mh_leaf.specs.LeafTable.{LeafTable}
+use Rattle.mh_tree.specs.Tree.{Tree}
 use Rattle.mh_edit.specs.declared.key.Key.{Key}
 use Rattle.mh_handle.specs.declared.error.HandleError.{HandleError}
 use Rattle.mh_handle.specs.declared.error.HandleError.TheVariants as handle
@@ -12,14 +13,15 @@ use Rattle.mh_handle.specs.declared.handle.Handle.{Handle}
 use Rattle.mh_handle.specs.declared.work.Work.{Work}
 use Rattle.mh_handle.specs.Recipe.{recipe}
 use Rattle.mh_handle.specs.Works.{GoesOn, IsReady}
+use Rattle.mh_script.specs.declared.operand.Register.{Register}
 use Rattle.mh_script.specs.declared.script.End.{End}
 use Rattle.mh_script.specs.declared.script.Step.{Step}
 use Rattle.mh_script.specs.Limits.{CanDivide}
 use Rattle.mh_attempt.specs.declared.registers.Registers.{Registers}
 use Rattle.mh_jobs.specs.Thrown.{OrThrown}
 use Rattle.mh_link.specs.Linked.{ran, stepped}
-use Rattle.mh_link.specs.Made.{nodes_of_step, types_of}
-use Rattle.mh_link.specs.Operands.{Frame}
+use Rattle.mh_link.specs.Made.{nodes_of_step, nodes_of_uses, types_of, unless_thrown}
+use Rattle.mh_link.specs.Operands.{Frame, handle_in}
 use Rattle.mh_attempt.specs.Asked.{AsksOrThrows}
 use Rattle.mh_attempt.specs.AskedTypes.{AsksTypesOrThrows, script_types}
 use Rattle.mh_attempt.specs.Lines.{TellsTarget}
@@ -47,6 +49,20 @@ Replaces gone came old new = (asks : List MethodTy) × Exchanges asks gone came 
 abbrev pub ReplacesTypes : {E : Type 0} → Registers → Registers → Work → Work → Result Handle E → Type 0
 ReplacesTypes before after old new (Ok h) = Replaces (holds_in before.assigned.items) (holds_in after.assigned.items ++ h.held) old new
 ReplacesTypes before after old new (Err error) = Replaces (holds_in before.assigned.items) (holds_in after.assigned.items) old new
+
+-- ---- one use
+
+-- the node that the use of a register makes: none if it throws
+abbrev pub use_nodes : Register → Frame → List Tree
+use_nodes r frame = unless_thrown (handle_in frame r) (λ t. nodes_of_uses frame (r ∷ []))
+
+-- the recipe of the form that it asks for
+abbrev pub use_recipes : LeafTable → Register → Frame → List (List Key)
+use_recipes leaves r frame = map (recipe leaves) (use_nodes r frame)
+
+-- the type of this node
+abbrev pub use_types : LeafTable → Register → Frame → List MethodTy
+use_types leaves r frame = types_of leaves (use_nodes r frame)
 
 -- ---- one line
 

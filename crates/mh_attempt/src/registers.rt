@@ -6,12 +6,15 @@ ghost use Rattle.mh_values.specs.Exception.{saying};
 ghost use Rattle.mh_intern.specs.Exchanges.{Exchanges};
 ghost use Rattle.mh_intern.specs.Views.{SeatView};
 ghost use Rattle.mh_leaf.specs.LeafTable.{LeafTable};
+ghost use Rattle.mh_handle.specs.declared.work.Work.{Work};
+ghost use Rattle.mh_handle.specs.Stands.{Stands};
 ghost use Rattle.mh_handle.specs.Works.{HoldsTypes, IsUnchanged};
 ghost use Rattle.mh_script.specs.declared.operand.Register.TheVariants as register;
 ghost use Rattle.mh_link.specs.Made.{leaf_among, node_of_use};
 ghost use Rattle.mh_link.specs.Operands as operands;
 ghost use Rattle.mh_link.specs.Operands.{Frame, content, content_of, no_argument, as_handle, as_value, as_method_type, as_class, handle_in, value_in, type_in, method_type_in};
-ghost use Rattle.mh_attempt.specs.Registers.{AreHeldBy, HasRoomForName, Hold, HoldSame, HoldsContent, IsContent, IsFoundIn, IsHeldIn, IsKeptIn, IsLeafWithin, StandsFor, assigned_to, class_in, held_under, holds_in, holds_of, is_named, node_held, node_made};
+ghost use Rattle.mh_attempt.specs.Registers.{AreHeldBy, HasRoomForName, Hold, HoldOthers, HoldSame, HoldsContent, IsContent, IsFoundIn, IsHeldIn, IsKeptIn, IsLeafWithin, IsTaken, StandsFor, assigned_to, class_in, held_under, holds_in, holds_of, is_named, node_held, node_made};
+ghost use Rattle.mh_attempt.specs.Runs.{ReplacesTypes};
 ghost use Rattle.mh_attempt.specs.Told.{Tells, TellsBy, Throws};
 
 use crate::handle::HandleOperand;
@@ -251,6 +254,38 @@ impl<'f, 't> Registers<'f, 't> {
         }
     }
 
+    // Takes out what lines have assigned under a name. A number stands there instead.
+    fn take(&mut self, name: &[u8]) -> Option<Held<'t>>
+        ensures before { result ≡ held_under name.now self.old.assigned.items }
+        ensures call { self.new.call ≡ self.old.call }
+        ensures serial { self.new.serial ≡ self.old.serial }
+        ensures assigned { IsTaken name.entry result self.old.assigned.items
+            self.new.assigned.items }
+        ensures room { HasRoomForName self.old → HasRoomForName self.new }
+    {
+        match place_of(self.assigned.as_slice(), name) {
+            Some(place) => Some(mem::replace(&mut self.assigned[place].held, Held::Number(0))),
+            None => None,
+        }
+    }
+
+    /// Takes the method handle out of a register that a line assigned, so that it need not be
+    /// copied. Throws if the register holds nothing or something else.
+    pub fn take_handle(&mut self, name: &[u8]) -> Result<Handle<'t>, CheckError>
+        ensures stands { (leaves : LeafTable) (frame : Frame) → Hold leaves self.old frame
+            → TellsBy (Stands leaves) result (handle_in frame (register.Assigned name.now)) }
+        ensures types { (w : Work) → AreHeldBy w.seat.now self.old
+            → ReplacesTypes self.old self.new w w result }
+        ensures others { HoldOthers name.now self.old self.new }
+        ensures room { HasRoomForName self.old → HasRoomForName self.new }
+    {
+        match self.take(name) {
+            Some(Held::Handle(handle)) => Ok(handle),
+            Some(Held::Number(_)) => Err(wrong_sort(self.alloc)),
+            None => Err(no_argument(self.alloc)),
+        }
+    }
+
     /// Gives up the handles that registers hold, and releases the types that these hold.
     pub fn give_back(mut self, w: &mut Work<'_, 't>)
         requires of_types { w.old.seat.now.table ≡ w.old.types.now }
@@ -321,6 +356,17 @@ impl<'f, 't> Registers<'f, 't> {
         ensures kept { (seat : SeatView) → AreHeldBy seat self.now → IfOk result (IsHeldIn seat) }
     {
         let held = self.content(register)?;
+        as_handle(self.alloc, held)
+    }
+
+    /// The method handle of a register that a line assigned.
+    pub fn assigned_handle(&self, name: &[u8]) -> Result<HandleOperand<'_, 't>, CheckError>
+        ensures stands { (leaves : LeafTable) (frame : Frame) → Hold leaves self.now frame
+            → TellsBy (StandsFor leaves) result (handle_in frame (register.Assigned name.now)) }
+        ensures makes { IfOk result (λ operand. node_made operand ≡ []) }
+        ensures kept { (seat : SeatView) → AreHeldBy seat self.now → IfOk result (IsHeldIn seat) }
+    {
+        let held = self.assigned(name)?;
         as_handle(self.alloc, held)
     }
 

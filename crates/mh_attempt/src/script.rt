@@ -8,12 +8,11 @@ ghost use Rattle.mh_attempt.specs.Asked.{AsksOrThrows};
 ghost use Rattle.mh_attempt.specs.AskedTypes.{AsksTypesOrThrows, end_types};
 ghost use Rattle.mh_attempt.specs.Lines.{MakesNode, passes, raised};
 ghost use Rattle.mh_link.specs.Linked.{ended};
-ghost use Rattle.mh_link.specs.Operands.{Frame};
+ghost use Rattle.mh_link.specs.Operands.{Frame, handle_in};
 ghost use Rattle.mh_attempt.specs.Recipes.{end_recipes};
 ghost use Rattle.mh_attempt.specs.Registers.{AreHeldBy, Hold, HoldSome};
-ghost use Rattle.mh_attempt.specs.Runs.{MayRun, Runs, RunsStep};
+ghost use Rattle.mh_attempt.specs.Runs.{MayRun, ReplacesTypes, Runs, RunsStep, use_recipes, use_types};
 ghost use Rattle.mh_attempt.specs.Told.{Tells};
-ghost use Rattle.mh_attempt.specs.Several.{AddsTypes};
 
 use crate::lines::node;
 use crate::names::class_of;
@@ -54,50 +53,79 @@ fn raised(alloc: Global, classes: &Classes, class: &[u8], message: &Str) -> Resu
     Ok(Exc::of(alloc, parts)?)
 }
 
-/// The last line `return H`: a handle of the register, whose type must be the site's.
-fn return_handle<'t, R: Wait>(
+/// The handle of a register that no line uses any more. One that a line made is taken out.
+fn last_handle<'t, R: Wait>(
     w: &mut Work<'_, 't>,
     rt: &R,
-    registers: &Registers<'_, 't>,
+    registers: &mut Registers<'_, 't>,
     register: &Register,
 ) -> Result<Handle<'t>, HandleError>
     requires ready { IsReady w.old 1 }
-    requires registers { HoldSome (leaves_of w.old) registers.now }
-    requires kept { AreHeldBy w.old.seat.now registers.now }
+    requires registers { HoldSome (leaves_of w.old) registers.old }
+    requires kept { AreHeldBy w.old.seat.now registers.old }
     ensures goes_on { GoesOn 1 w.old w.new }
-    ensures types { AddsTypes w.old w.new result }
-    ensures node { (frame : Frame) → Hold (leaves_of w.old) registers.now frame
+    ensures types { ReplacesTypes registers.old registers.new w.old w.new result }
+    ensures node { (frame : Frame) → Hold (leaves_of w.old) registers.old frame
+        → MakesNode (handle_in frame register.now) w.old w.new result }
+    ensures asks { (frame : Frame) → Hold (leaves_of w.old) registers.old frame
+        → AsksOrThrows (use_recipes (leaves_of w.old) register.now frame) w.old w.new result }
+    ensures asked { (frame : Frame) → Hold (leaves_of w.old) registers.old frame
+        → AsksTypesOrThrows (use_types (leaves_of w.old) register.now frame) w.old w.new result }
+{
+    match register {
+        Register::Assigned(name) => Ok(registers.take_handle(name.as_slice())?),
+        Register::SiteType | Register::SiteName | Register::Argument(_) => {
+            let target = registers.handle(register)?;
+            target.make(w, rt)
+        }
+    }
+}
+
+/// The last line `return H`: the handle of the register, whose type must be the site's.
+fn return_handle<'t, R: Wait>(
+    w: &mut Work<'_, 't>,
+    rt: &R,
+    registers: &mut Registers<'_, 't>,
+    register: &Register,
+) -> Result<Handle<'t>, HandleError>
+    requires ready { IsReady w.old 1 }
+    requires registers { HoldSome (leaves_of w.old) registers.old }
+    requires kept { AreHeldBy w.old.seat.now registers.old }
+    ensures goes_on { GoesOn 1 w.old w.new }
+    ensures types { ReplacesTypes registers.old registers.new w.old w.new result }
+    ensures node { (frame : Frame) → Hold (leaves_of w.old) registers.old frame
         → MakesNode (ended (leaves_of w.old) (end.Return register.now) frame) w.old w.new result }
-    ensures asks { (frame : Frame) → Hold (leaves_of w.old) registers.now frame → AsksOrThrows
+    ensures asks { (frame : Frame) → Hold (leaves_of w.old) registers.old frame → AsksOrThrows
         (end_recipes (leaves_of w.old) (end.Return register.now) frame) w.old w.new result }
-    ensures asked { (frame : Frame) → Hold (leaves_of w.old) registers.now frame → AsksTypesOrThrows
+    ensures asked { (frame : Frame) → Hold (leaves_of w.old) registers.old frame → AsksTypesOrThrows
         (end_types (leaves_of w.old) (end.Return register.now) frame) w.old w.new result }
 {
+    let call = registers.call;
     let target = registers.handle(register)?;
-    let (own, asked) = (target.ty(w.leaves), registers.call.ty.get());
+    let (own, asked) = (target.ty(w.leaves), call.ty.get());
     if !is_same_method_type(own, asked) {
         return Err(HandleError::Refused(mismatch(w.alloc, own, asked, w.classes())?));
     }
-    target.make(w, rt)
+    last_handle(w, rt, registers, register)
 }
 
-/// The last line.
+/// The last line. A handle that it returns is taken out of its register.
 fn run_end<'t, R: Wait>(
     w: &mut Work<'_, 't>,
     rt: &R,
-    registers: &Registers<'_, 't>,
+    registers: &mut Registers<'_, 't>,
     end: &End,
 ) -> Result<Handle<'t>, HandleError>
     requires ready { IsReady w.old 1 }
-    requires registers { HoldSome (leaves_of w.old) registers.now }
-    requires kept { AreHeldBy w.old.seat.now registers.now }
+    requires registers { HoldSome (leaves_of w.old) registers.old }
+    requires kept { AreHeldBy w.old.seat.now registers.old }
     ensures goes_on { GoesOn 1 w.old w.new }
-    ensures types { AddsTypes w.old w.new result }
-    ensures node { (frame : Frame) → Hold (leaves_of w.old) registers.now frame
+    ensures types { ReplacesTypes registers.old registers.new w.old w.new result }
+    ensures node { (frame : Frame) → Hold (leaves_of w.old) registers.old frame
         → MakesNode (ended (leaves_of w.old) end.now frame) w.old w.new result }
-    ensures asks { (frame : Frame) → Hold (leaves_of w.old) registers.now frame → AsksOrThrows
+    ensures asks { (frame : Frame) → Hold (leaves_of w.old) registers.old frame → AsksOrThrows
         (end_recipes (leaves_of w.old) end.now frame) w.old w.new result }
-    ensures asked { (frame : Frame) → Hold (leaves_of w.old) registers.now frame → AsksTypesOrThrows
+    ensures asked { (frame : Frame) → Hold (leaves_of w.old) registers.old frame → AsksTypesOrThrows
         (end_types (leaves_of w.old) end.now frame) w.old w.new result }
 {
     match end {
@@ -130,9 +158,10 @@ fn run_line<'f, 't, R: Wait>(
 {
     match step {
         Step::Let(name, operation) => {
+            let name = name.as_slice();
             registers.reserve()?;
-            let handle = node(w, rt, registers, operation)?;
-            registers.assign(w, name.as_slice(), Held::Handle(handle));
+            let handle = node(w, rt, registers, name, operation)?;
+            registers.assign(w, name, Held::Handle(handle));
             Ok(())
         }
         Step::Serial(name) => {

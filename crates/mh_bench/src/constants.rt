@@ -3,11 +3,11 @@
 ghost use Rattle.std.specs.Prelude.{◌≡◌, ◌*◌, ◌<◌, ◌≤◌};
 ghost use Rattle.mh_condy.specs.Passes.{split_room};
 ghost use Rattle.mh_condy.specs.Runs.{AreResolvable};
-ghost use Rattle.mh_condy_tests.specs.Built.{run_of};
+ghost use Rattle.mh_sharing_tests.specs.Built.{run_of};
 
 use mh_base::NoMemory;
 use mh_condy::{ConstPass, ConstRun, ConstTable};
-use mh_condy_tests::{Broken, Built, first_pass, ladder, resolve, wide};
+use mh_sharing_tests::constants::{Broken, Built, first_pass, ladder, resolve, wide};
 use std::alloc::Global;
 use std::marker::Brand;
 use std::sync::Wait;

@@ -2,9 +2,9 @@
 
 use crate::{cells, concats, constants, forms, rows, scripts, types};
 use mh_base::NoMemory;
-use mh_condy_tests::Broken as BrokenConstants;
 use mh_handle::EditError;
 use mh_intern::InternError;
+use mh_sharing_tests::constants::Broken as BrokenConstants;
 use mh_steps::Broken;
 use std::alloc::Global;
 use std::sync::Wait;

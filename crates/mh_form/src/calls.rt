@@ -147,7 +147,9 @@ impl Calls {
             OnOk result (self.new ≡ self.old ++ record { leaf = leaf; args = args } ∷ []) }
         ensures err { OnErr result (self.new ≡ self.old) }
     {
-        self.calls.reserve(1)?;
+        if self.calls.len() >= self.calls.capacity() {
+            self.calls.reserve(1)?;
+        }
         self.calls
             .push_reserved(Noted::of(leaf, slots, base, types, places, classes));
         Ok(())

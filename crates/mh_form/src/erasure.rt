@@ -45,7 +45,7 @@ pub fn shape(alloc: Global, ty: &MethodTy) -> Result<Shape, NoMemory>
 
 /// A number as a slot.
 #[inline(always)]
-fn number_slot(number: Num) -> Slot
+pub(crate) fn number_slot(number: Num) -> Slot
     ensures { result ≡ number_slot (primitive_of number) (whole number) }
 {
     match number {

@@ -32,6 +32,33 @@ fn slot_length(ty: Ty, slot: &Slot, classes: &Classes) -> usize
     }
 }
 
+/// The most characters that are written one by one. For more of them a call takes less.
+const FEW: usize = 8;
+
+/// Writes characters one by one.
+#[inline(always)]
+fn push_few(chars: &mut Vec<char>, text: &[char]) -> Result<(), NoMemory>
+    ensures { OnOk result (chars.new.items ≡ chars.old.items ++ text.now) }
+{
+    chars.reserve(text.len())?;
+    for character in text {
+        chars.push_reserved(*character);
+    }
+    Ok(())
+}
+
+/// Writes the characters of a text.
+#[inline(always)]
+fn push_whole(chars: &mut Vec<char>, text: &[char]) -> Result<(), NoMemory>
+    ensures { OnOk result (chars.new.items ≡ chars.old.items ++ text.now) }
+{
+    if text.len() <= FEW {
+        push_few(chars, text)
+    } else {
+        push_chars(chars, text)
+    }
+}
+
 /// Writes that text.
 #[inline(always)]
 fn push_slot(chars: &mut Vec<char>, ty: Ty, slot: &Slot, classes: &Classes) -> Result<(), NoMemory>
@@ -43,7 +70,7 @@ fn push_slot(chars: &mut Vec<char>, ty: Ty, slot: &Slot, classes: &Classes) -> R
         (Ty::Prim(primitive), _) => {
             push_text(chars, &Value::Prim(number_in(primitive, slot)), classes)
         }
-        (_, Slot::L(Value::Text(text))) => push_chars(chars, text.as_slice()),
+        (_, Slot::L(Value::Text(text))) => push_whole(chars, text.as_slice()),
         (_, Slot::L(value)) => push_text(chars, value, classes),
         _ => unreachable!(),
     }

@@ -34,8 +34,8 @@ pub(crate) fn get(
     let Some(slot) = slot_in(bound, call.leaves, field) else {
         unreachable!()
     };
-    let slot = slot.copy(stack.alloc())?;
-    stack.give(Ok(slot))
+    stack.push_copy(slot)?;
+    Ok(Going::On)
 }
 
 /// Calls the leaf in a field.

@@ -11,6 +11,7 @@ ghost use Rattle.mh_form.specs.Run.{picked, result_at};
 ghost use Rattle.mh_form.specs.Slots.{filled, none_as_zero};
 ghost use Rattle.mh_form.specs.Stack.{begun, done, left, on_stack, slot_or_exc, with_slot, with_slots};
 
+use crate::erasure::number_slot;
 use crate::going::Going;
 use crate::leaf::typed_at;
 use crate::slots::slot_at;
@@ -101,12 +102,29 @@ impl Stack {
         self.clear();
         self.slots
             .reserve(values.len().saturating_add(ROOM_FOR_NAMES))?;
-        let alloc = self.alloc();
         for value in values.as_slice() {
-            let copy = value.copy(alloc)?;
-            self.push(erase(copy))?;
+            self.push_erased(value)?;
         }
         Ok(())
+    }
+
+    // Puts a copy of a value, as a slot, after those of the run under way. A value of each kind is
+    // written where it is copied, which takes half as many instructions.
+    #[inline(always)]
+    fn push_erased(&mut self, value: &Value) -> Result<(), NoMemory>
+        ensures { OnOk result (self.new ≡ with_slot self.old (erased value.now)) }
+    {
+        match value {
+            Value::Prim(number) => self.push(number_slot(*number)),
+            Value::Text(text) => {
+                let text = text.copy()?;
+                self.push(Slot::L(Value::Text(text)))
+            }
+            _ => {
+                let copy = value.copy(self.alloc())?;
+                self.push(Slot::L(copy))
+            }
+        }
     }
 
     /// Puts other leaf calls in place of those so far, and answers these.
@@ -177,7 +195,9 @@ impl Stack {
     pub(crate) fn push(&mut self, slot: Slot) -> Result<(), NoMemory>
         ensures { OnOk result (self.new ≡ with_slot self.old slot) }
     {
-        self.slots.reserve(1)?;
+        if self.slots.len() >= self.slots.capacity() {
+            self.slots.reserve(1)?;
+        }
         self.slots.push_reserved(slot);
         Ok(())
     }
@@ -265,12 +285,58 @@ impl Stack {
         ensures { OnOk result (option_map (with_slots self.old) (picked self.old.frame places.now)
             ≡ Some self.new) }
     {
-        let alloc = self.alloc();
         for place in places.as_slice() {
-            let copy = self.at(*place).copy(alloc)?;
-            self.push(copy)?;
+            self.push_copy_at(*place)?;
         }
         Ok(())
+    }
+
+    /// Puts a copy of a slot after all slots. A slot of each kind is written where it is copied.
+    #[inline(always)]
+    pub(crate) fn push_copy(&mut self, slot: &Slot) -> Result<(), NoMemory>
+        ensures { OnOk result (self.new ≡ with_slot self.old slot.now) }
+    {
+        match slot {
+            Slot::I(number) => self.push(Slot::I(*number)),
+            Slot::J(number) => self.push(Slot::J(*number)),
+            Slot::L(Value::Text(text)) => {
+                let text = text.copy()?;
+                self.push(Slot::L(Value::Text(text)))
+            }
+            Slot::L(value) => {
+                let copy = value.copy(self.alloc())?;
+                self.push(Slot::L(copy))
+            }
+        }
+    }
+
+    // Puts a copy of the slot at a place after all slots. A slot of each kind is written where it is
+    // copied.
+    #[inline(always)]
+    fn push_copy_at(&mut self, place: u32) -> Result<(), NoMemory>
+        requires { slice_get self.old.frame place ≢ None }
+        ensures { OnOk result (option_map (with_slot self.old) (slice_get self.old.frame place)
+            ≡ Some self.new) }
+    {
+        let alloc = self.alloc();
+        match self.at(place) {
+            Slot::I(number) => {
+                let number = *number;
+                self.push(Slot::I(number))
+            }
+            Slot::J(number) => {
+                let number = *number;
+                self.push(Slot::J(number))
+            }
+            Slot::L(Value::Text(text)) => {
+                let text = text.copy()?;
+                self.push(Slot::L(Value::Text(text)))
+            }
+            Slot::L(value) => {
+                let copy = value.copy(alloc)?;
+                self.push(Slot::L(copy))
+            }
+        }
     }
 
     // How many slots the run under way has.

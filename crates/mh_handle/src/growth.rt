@@ -193,6 +193,21 @@ pub fn one_field<'t>(alloc: Global, field: Field<'t>) -> Result<Fields<'t>, NoMe
     Ok(fields)
 }
 
+/// Moves the items of a list behind those of another. If memory runs out, all stay where they are.
+fn move_behind<T>(items: &mut Vec<T>, more: &mut Vec<T>) -> Result<(), NoMemory>
+    ensures moved { OnOk result (items.new.items ≡ items.old.items ++ more.old.items) }
+    ensures err { OnErr result
+        ((items.new.items ≡ items.old.items) × (more.new.items ≡ more.old.items)) }
+{
+    if items.is_empty() {
+        // No item is copied, and no memory is asked for.
+        std::mem::swap(items, more);
+        return Ok(());
+    }
+    items.append(more)?;
+    Ok(())
+}
+
 /// Fields followed by others, and held types followed by others. If memory runs out, the types stay
 /// where they are.
 fn joined<'t>(
@@ -208,7 +223,7 @@ fn joined<'t>(
 {
     let mut fields = fields;
     let mut more = more;
-    fields.append(&mut more)?;
-    held.append(added)?;
+    move_behind(&mut fields, &mut more)?;
+    move_behind(held, added)?;
     Ok(fields)
 }

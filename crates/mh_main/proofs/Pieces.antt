@@ -1,5 +1,5 @@
 -- A line that is written piece by piece.
-use Rattle.std.proofs.Common.{◌≡◌, ◌∙◌, sym, ap, ℕ, ◌+◌, ◌<◌, ◌≤◌, min, List, ◌++◌, length, take, drop, Option, Some, None, arith, append_assoc, Bor, get_or}
+use Rattle.std.proofs.Common.{◌≡◌, ◌∙◌, sym, ap, ℕ, ◌+◌, ◌<◌, ◌≤◌, min, List, ◌++◌, length, take, drop, Option, Some, None, arith, append_assoc, get_or}
 use Rattle.std.proofs.Math.Seq.{take-append-add}
 use Rattle.std.proofs.lemmas.List.{take-append-le, take_min, take-append-drop, drop_more}
 use Rattle.std.proofs.lemmas.Grind.{flat_map-append}
@@ -25,15 +25,15 @@ AppendsPart-after (Some x) (Some y) (Some z) a b c before part = (
 )
 
 -- the pieces up to a place, the one there, and the rest
-flat_map-at : (pieces : List (Bor (List ℕ))) (i : ℕ) (d : Bor (List ℕ)) → i < length pieces →
-    flat_map (λ p. p.now) pieces ≡ flat_map (λ p. p.now) (take i pieces) ++ ((get_or pieces i d).now ++ flat_map (λ p. p.now) (drop (i + 1) pieces))
-flat_map-at pieces i d in_range =
-    ap (flat_map (λ p. p.now)) (sym (take-append-drop i pieces)) ∙ flat_map-append (λ p. p.now) (take i pieces) (drop i pieces) ∙
-    ap (λ r. flat_map (λ p. p.now) (take i pieces) ++ flat_map (λ p. p.now) r) (drop_more pieces i d in_range)
+flat_map-at : {P : Type 0} (bytes : P → List ℕ) (pieces : List P) (i : ℕ) (d : P) → i < length pieces →
+    flat_map bytes pieces ≡ flat_map bytes (take i pieces) ++ (bytes (get_or pieces i d) ++ flat_map bytes (drop (i + 1) pieces))
+flat_map-at bytes pieces i d in_range =
+    ap (flat_map bytes) (sym (take-append-drop i pieces)) ∙ flat_map-append bytes (take i pieces) (drop i pieces) ∙
+    ap (λ r. flat_map bytes (take i pieces) ++ flat_map bytes r) (drop_more pieces i d in_range)
 
 -- a write that broke off at a piece
-pub AppendsPart-at : (old mid new : Option (List ℕ)) (pieces : List (Bor (List ℕ))) (i : ℕ) (d : Bor (List ℕ)) → i < length pieces →
-    Appends old mid (flat_map (λ p. p.now) (take i pieces)) → AppendsPart mid new (get_or pieces i d).now → AppendsPart old new (flat_map (λ p. p.now) pieces)
-AppendsPart-at old mid new pieces i d in_range before part =
-    rw (flat_map-at pieces i d in_range) (AppendsPart-after old mid new (flat_map (λ p. p.now) (take i pieces)) (get_or pieces i d).now
-    (flat_map (λ p. p.now) (drop (i + 1) pieces)) before part)
+pub AppendsPart-at : {P : Type 0} (bytes : P → List ℕ) (old mid new : Option (List ℕ)) (pieces : List P) (i : ℕ) (d : P) → i < length pieces →
+    Appends old mid (flat_map bytes (take i pieces)) → AppendsPart mid new (bytes (get_or pieces i d)) → AppendsPart old new (flat_map bytes pieces)
+AppendsPart-at bytes old mid new pieces i d in_range before part =
+    rw (flat_map-at bytes pieces i d in_range) (AppendsPart-after old mid new (flat_map bytes (take i pieces)) (bytes (get_or pieces i d))
+    (flat_map bytes (drop (i + 1) pieces)) before part)

@@ -30,3 +30,19 @@ pub fn write_pieces<S: Sink>(sink: &mut S, pieces: &[&[u8]]) -> Result<(), Faile
     }
     Ok(())
 }
+
+/// Writes the parts of a report, one after the other. It takes no memory.
+pub fn write_parts<S: Sink>(sink: &mut S, parts: &[Vec<u8>]) -> Result<(), Failed>
+    ensures later { S.faults sink.old ≤ S.faults sink.new }
+    ensures cause { OnErr result (Rose (S.faults sink.old) (S.faults sink.new)) }
+    ensures no_fault { OnOk result (S.faults sink.new ≡ S.faults sink.old) }
+    ensures all { OnOk result
+        (Appends (S.taken sink.old) (S.taken sink.new) (flat_map (λ p. p.items) parts.now)) }
+    ensures part { OnErr result
+        (AppendsPart (S.taken sink.old) (S.taken sink.new) (flat_map (λ p. p.items) parts.now)) }
+{
+    for at in 0..parts.len() {
+        write_whole(sink, &parts[at])?;
+    }
+    Ok(())
+}

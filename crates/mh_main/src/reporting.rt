@@ -20,7 +20,10 @@ use crate::sums::{Sums, calls_in, line, sum_of};
 use crate::{Output, Program, TopAnswer};
 use mh_base::{NoMemory, Seq};
 use mh_outside::Gate;
-use mh_report::{Attempts, ConstRow, ConstRows, Recorded, Serials, Summary, Table, report};
+use mh_report::{
+    Attempts, ConstRow, ConstRows, Finished, Recorded, Report, Serials, Summary, Table,
+    report_by_threads,
+};
 use mh_runtime::{RunInput, RunReport, WorkError, run_all};
 use mh_values::Classes;
 use std::alloc::Global;
@@ -100,8 +103,13 @@ fn run<R: Threads + Wait + Sync, G: Gate + Sync>(
 }
 
 // The report on a run.
-fn report_of(alloc: Global, classes: &Classes, run: &RunReport) -> Result<Vec<u8>, NoMemory>
-    ensures { IfOk result (λ text. text.items ≡ report_text classes.now run.now.table
+fn report_of<R: Threads + Wait + Sync>(
+    rt: &R,
+    alloc: Global,
+    classes: &Classes,
+    run: &RunReport,
+) -> Result<Report, NoMemory>
+    ensures { IfOk result (λ report. report ≡ report_text classes.now run.now.table
         run.now.constants (results_said run.now.threads) (length run.now.attempts) run.now.forms
         run.now.types) }
 {
@@ -110,14 +118,13 @@ fn report_of(alloc: Global, classes: &Classes, run: &RunReport) -> Result<Vec<u8
         forms: run.forms,
         types: run.types,
     };
-    report(
-        alloc,
-        &run.threads,
-        &run.table,
-        &run.constants,
+    let finished = Finished {
+        threads: &run.threads,
+        table: &run.table,
+        constants: &run.constants,
         summary,
-        classes,
-    )
+    };
+    report_by_threads(rt, alloc, &finished, classes)
 }
 
 // The line of a run of the input that is made from a number.
@@ -144,15 +151,20 @@ fn line_of(
 }
 
 // What is to be written of a run.
-fn text_of(alloc: Global, program: &Program, run: &RunReport) -> Result<Vec<u8>, NoMemory>
+fn text_of<R: Threads + Wait + Sync>(
+    rt: &R,
+    alloc: Global,
+    program: &Program,
+    run: &RunReport,
+) -> Result<Report, NoMemory>
     requires { IsWithinLimits program.now.plan }
-    ensures { IfOk result (λ text. text.items ≡ written program.now run.now.table
+    ensures { IfOk result (λ report. report ≡ written program.now run.now.table
         run.now.constants (results_said run.now.threads) (length run.now.attempts) run.now.forms
         run.now.types) }
 {
     match program.output {
-        Output::Report => report_of(alloc, program.leaves.classes(), run),
-        Output::Line(number) => line_of(alloc, number, program, run),
+        Output::Report => report_of(rt, alloc, program.leaves.classes(), run),
+        Output::Line(number) => Report::of(alloc, line_of(alloc, number, program, run)?),
     }
 }
 
@@ -203,7 +215,7 @@ pub fn run_and_report<R: Threads + Wait + Sync, G: Gate + Sync>(
     alloc: Global,
     program: &Program,
     gate: &G,
-) -> Result<(TopAnswer, Vec<u8>), WorkError>
+) -> Result<(TopAnswer, Report), WorkError>
     requires { IsRunnable program.now }
     ensures ledger { IfOk result (λ r. LedgerBy program.now.workers program.now.plan
         (length program.now.jobs) r.0.table r.0.attempts) }
@@ -212,7 +224,7 @@ pub fn run_and_report<R: Threads + Wait + Sync, G: Gate + Sync>(
     ensures answers { IfOk result
         (λ r. AreAnswersOf program.now r.0.table r.0.constants r.0.threads) }
     ensures text { IfOk result
-        (λ r. r.1.items ≡ text program.now r.0.table r.0.constants r.0.attempts) }
+        (λ r. r.1 ≡ text program.now r.0.table r.0.constants r.0.attempts) }
     ensures status { IfOk result (λ r. r.0.status ≡ done) }
     ensures full { IfFull result (most_forms
         < draws_by (given_of program.now) program.now.workers program.now.plan) }
@@ -220,8 +232,8 @@ pub fn run_and_report<R: Threads + Wait + Sync, G: Gate + Sync>(
         (types_by (given_of program.now) program.now.workers program.now.plan)) }
 {
     let run = run(rt, alloc, program, gate)?;
-    let text = text_of(alloc, program, &run)?;
+    let report = text_of(rt, alloc, program, &run)?;
     let table = serials(alloc, &run.table)?;
     let constants = row_serials(alloc, &run.constants)?;
-    Ok((answered(table, constants, run), text))
+    Ok((answered(table, constants, run), report))
 }

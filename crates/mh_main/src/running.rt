@@ -13,7 +13,7 @@ ghost use Rattle.mh_main.specs.Status.{done, refused, usage_wanted, no_memory, f
 ghost use Rattle.mh_main.specs.Due.{AnswersCalls, AreAnswersOf, FailsToRead, FillsForms, FillsTypes, IsDue, IsDueOf, IsFullOf, IsGenerated, IsEmptyAnswer, IsListing, IsListingOf, IsOverfullOf, IsReportOf, RefusesInput, RefusesWords, Reports, Writes, WritesPart};
 
 use crate::generated::read_generated;
-use crate::lines::{FORMS, TYPES, USAGE, write_pieces};
+use crate::lines::{FORMS, TYPES, USAGE, write_parts, write_pieces};
 use crate::listing::list_sites;
 use crate::reading::read_program;
 use crate::reporting::run_and_report;
@@ -25,6 +25,7 @@ use crate::{Output, Program, TopAnswer};
 use itoa::Buffer;
 use mh_base::Seq;
 use mh_outside::{Failed, Gate, Inputs, Sink, write_whole};
+use mh_report::Report;
 use mh_runtime::WorkError;
 use mh_words::{Command, read_words};
 use std::alloc::Global;
@@ -79,7 +80,7 @@ fn unwritten(answer: TopAnswer) -> TopAnswer
 }
 
 // Writes the report of a run.
-fn answer_report<S: Sink>(sink: &mut S, answer: TopAnswer, text: &[u8]) -> TopAnswer
+fn answer_report<S: Sink>(sink: &mut S, answer: TopAnswer, report: &Report) -> TopAnswer
     requires { answer.status ≡ done }
     ensures threads { result.threads ≡ answer.threads }
     ensures table { result.table ≡ answer.table }
@@ -88,12 +89,12 @@ fn answer_report<S: Sink>(sink: &mut S, answer: TopAnswer, text: &[u8]) -> TopAn
     ensures resolving { result.constant_attempts ≡ answer.constant_attempts }
     ensures status { result.status ≢ write_failed → result.status ≡ done }
     ensures written { result.status ≢ write_failed
-        → Appends (S.taken sink.old) (S.taken sink.new) text.now }
+        → Appends (S.taken sink.old) (S.taken sink.new) report.now }
     ensures part { result.status ≡ write_failed
-        → AppendsPart (S.taken sink.old) (S.taken sink.new) text.now }
+        → AppendsPart (S.taken sink.old) (S.taken sink.new) report.now }
     ensures fails { FailsWhere result.status (S.faults sink.old) (S.faults sink.new) }
 {
-    match write_whole(sink, text) {
+    match write_parts(sink, report.parts()) {
         Ok(()) => answer,
         Err(Failed) => unwritten(answer),
     }
@@ -125,7 +126,7 @@ fn run_program<R: Threads + Wait + Sync, S: Sink, G: Gate + Sync>(
     ensures fails { FailsWhere result.status (S.faults sink.old) (S.faults sink.new) }
 {
     match run_and_report(rt, alloc, program, gate) {
-        Ok((answer, text)) => answer_report(sink, answer, &text),
+        Ok((answer, report)) => answer_report(sink, answer, &report),
         Err(WorkError::NoMemory) => nothing_ran(alloc, NO_MEMORY),
         Err(WorkError::FormsFull { drawn: _ }) => {
             answer_line(alloc, sink, FORMS_FULL, &[FORMS.as_bytes()])

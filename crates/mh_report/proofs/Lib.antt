@@ -1,4 +1,6 @@
 pub mod Running
+mod SharedCrossing
+mod SharedLines
 pub mod Host
 pub mod TableSerials
 mod CallTexts

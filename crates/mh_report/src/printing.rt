@@ -189,10 +189,14 @@ fn push_returned(
     }
 }
 
-// A space, and the number of a leaf.
+// A space, and the number of a leaf. A number of one digit is written together with the space.
+#[tactic(auto, using(std::proofs::lemmas::Fmt::decimal_digit))]
 fn push_next(text: &mut Vec<u8>, leaf: LeafId) -> Result<(), NoMemory>
     ensures { OnOk result (text.new.items ≡ text.old.items ++ (codes " " ++ decimal leaf.0)) }
 {
+    if leaf.0 < 10 {
+        return push(text, &[b' ', b'0' + leaf.0 as u8]);
+    }
     push(text, b" ")?;
     push_number(text, u64::from(leaf.0))
 }
@@ -267,8 +271,8 @@ fn push_answers(
     Ok(())
 }
 
-// The lines of a thread.
-fn push_thread(
+/// The lines of a thread.
+pub(crate) fn push_thread(
     alloc: Global,
     text: &mut Vec<u8>,
     number: usize,
@@ -300,8 +304,8 @@ fn push_threads(
     Ok(())
 }
 
-// The last line.
-fn push_summary(text: &mut Vec<u8>, summary: Summary) -> Result<(), NoMemory>
+/// The last line.
+pub(crate) fn push_summary(text: &mut Vec<u8>, summary: Summary) -> Result<(), NoMemory>
     ensures { OnOk result (text.new.items
         ≡ text.old.items ++ summary_text summary.attempts summary.forms summary.types) }
 {
@@ -325,6 +329,21 @@ pub struct Summary {
     pub types: u32,
 }
 
+/// The lines of all call sites and of all constants.
+pub(crate) fn push_recordings(
+    alloc: Global,
+    text: &mut Vec<u8>,
+    table: &Table,
+    constants: &ConstRows,
+    classes: &Classes,
+) -> Result<(), NoMemory>
+    ensures { OnOk result (text.new.items ≡ text.old.items
+        ++ (sites_text classes.now 0 table.now ++ constants_text classes.now 0 constants.now)) }
+{
+    push_sites(alloc, text, table, classes)?;
+    push_constants(alloc, text, constants, classes)
+}
+
 /// The report on a run. It has a line for each call site with what is recorded there, and a line
 /// for each dynamic constant with what is recorded of it. For each thread it has its number and a
 /// line for each of its calls. The last line counts attempts to link call sites, forms and types.
@@ -341,8 +360,7 @@ pub fn report(
         summary.attempts summary.forms summary.types) }
 {
     let mut text = Vec::new(alloc);
-    push_sites(alloc, &mut text, table, classes)?;
-    push_constants(alloc, &mut text, constants, classes)?;
+    push_recordings(alloc, &mut text, table, constants, classes)?;
     push_threads(alloc, &mut text, threads, classes)?;
     push_summary(&mut text, summary)?;
     Ok(text)

@@ -1,1 +1,2 @@
 mod InHand
+pub mod Building

@@ -1,5 +1,5 @@
-//! What threads share: chains, cells in a row, numbers that are drawn, the table of types, and
-//! items that workers link concurrently.
+//! What threads share: chains, cells in a row, numbers that are drawn, the table of types, items
+//! that workers link concurrently, and dynamic constants.
 #![tactic(auto)]
 
 mod both;
@@ -9,6 +9,7 @@ mod buckets;
 mod cells;
 #[cfg(test)]
 mod chains;
+pub mod constants;
 #[cfg(test)]
 mod drawing;
 #[cfg(test)]

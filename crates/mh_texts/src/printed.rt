@@ -1,4 +1,4 @@
-ghost use Rattle.std.specs.Prelude.{◌≡◌, ◌∷◌, ◌++◌, [], ◌<◌, ◌≤◌, codes, flat_map, take, IfOk, OnOk};
+ghost use Rattle.std.specs.Prelude.{◌≡◌, ◌∷◌, ◌++◌, [], ◌<◌, ◌≤◌, codes, flat_map, length, take, All, IfOk, IsTrue, OnOk};
 ghost use Rattle.std.specs.Fmt.{signed_decimal, decimal};
 ghost use Rattle.mh_values.specs.TypeText.{primitive_text};
 ghost use Rattle.mh_texts.specs.Text.{numbered_char, escaped_char, escaped, cut};
@@ -11,6 +11,9 @@ use mh_values::{Cell, ClassId, Classes, Comp, Exc, MethodTy, Num, Primitive, Ty,
 
 /// How many characters of a printed text are shown.
 const MOST_SHOWN: usize = 1024;
+
+/// How many characters are written at once if each of them is written as itself.
+const FEW: usize = 32;
 
 /// Cuts a printed text if it is too long.
 pub(crate) fn cut(mut bytes: Vec<u8>) -> Result<Vec<u8>, NoMemory>
@@ -40,17 +43,6 @@ fn push_code(bytes: &mut Vec<u8>, character: char) -> Result<(), NoMemory>
     push(bytes, number.as_bytes())
 }
 
-/// Writes a character as itself.
-#[inline(always)]
-fn push_graphic(bytes: &mut Vec<u8>, character: char) -> Result<(), NoMemory>
-    requires { character < 256 }
-    ensures { OnOk result (bytes.new.items ≡ bytes.old.items ++ character ∷ []) }
-{
-    bytes.reserve(1)?;
-    bytes.push_reserved(character as u8);
-    Ok(())
-}
-
 /// Writes a character: by its own escape, as itself, or by its number.
 #[inline(never)]
 fn push_escape(bytes: &mut Vec<u8>, character: char) -> Result<(), NoMemory>
@@ -61,20 +53,18 @@ fn push_escape(bytes: &mut Vec<u8>, character: char) -> Result<(), NoMemory>
         ',' => push(bytes, b"\\c"),
         '\n' => push(bytes, b"\\n"),
         '\\' => push(bytes, b"\\\\"),
-        '!'..='~' => push_graphic(bytes, character),
+        '!'..='~' => push(bytes, &[character as u8]),
         _ => push_code(bytes, character),
     }
 }
 
-/// The same, where letters, digits and most marks are written in line.
+/// Whether a character is written as itself, as letters, digits and most marks are.
 #[inline(always)]
-fn push_char(bytes: &mut Vec<u8>, character: char) -> Result<(), NoMemory>
-    ensures { OnOk result (bytes.new.items ≡ bytes.old.items ++ escaped_char character) }
+fn is_plain(character: char) -> bool
+    ensures low { IsTrue result → character < 128 }
+    ensures plain { IsTrue result → escaped_char character ≡ character ∷ [] }
 {
-    match character {
-        '!'..='+' | '-'..='[' | ']'..='~' => push_graphic(bytes, character),
-        _ => push_escape(bytes, character),
-    }
+    ('!'..='~').contains(&character) && character != ',' && character != '\\'
 }
 
 /// The characters of a text that matter where it is shown: one more than are shown at most, since
@@ -89,23 +79,90 @@ pub(crate) fn front(text: &[char]) -> &[char]
     }
 }
 
+/// Whether each character is written as itself. All are looked at, so that no jump depends on one.
+fn are_plain(text: &[char]) -> bool
+    ensures low { IsTrue result → All (λ c. c < 128) text.now }
+    ensures plain { IsTrue result → escaped text.now ≡ text.now }
+{
+    let mut plain = true;
+    for character in text {
+        plain &= is_plain(*character);
+    }
+    plain
+}
+
+/// Writes a few characters as themselves.
+#[tactic(auto, using(std::proofs::lemmas::List::take_more_set))]
+fn push_plain(bytes: &mut Vec<u8>, text: &[char]) -> Result<(), NoMemory>
+    requires low { All (λ c. c < 128) text.now }
+    requires few { length text.now ≤ 32 }
+    ensures { OnOk result (bytes.new.items ≡ bytes.old.items ++ text.now) }
+{
+    let mut plain = [0; FEW];
+    for at in 0..text.len() {
+        plain[at] = text[at] as u8;
+    }
+    push(bytes, &plain[..text.len()])
+}
+
+/// Writes characters one by one, with their escapes.
+fn push_each(bytes: &mut Vec<u8>, text: &[char]) -> Result<(), NoMemory>
+    ensures { OnOk result (bytes.new.items ≡ bytes.old.items ++ escaped text.now) }
+{
+    let mut left = text.len();
+    bytes.reserve(left)?;
+    for character in text {
+        if is_plain(*character) {
+            bytes.push_reserved(*character as u8);
+        } else {
+            push_escape(bytes, *character)?;
+            bytes.reserve(left)?;
+        }
+        left -= 1;
+    }
+    Ok(())
+}
+
+/// Writes a few characters with their escapes.
+fn push_few(bytes: &mut Vec<u8>, text: &[char]) -> Result<(), NoMemory>
+    requires { length text.now ≤ 32 }
+    ensures { OnOk result (bytes.new.items ≡ bytes.old.items ++ escaped text.now) }
+{
+    if are_plain(text) {
+        push_plain(bytes, text)
+    } else {
+        push_each(bytes, text)
+    }
+}
+
 /// Writes characters with their escapes.
 pub(crate) fn push_chars(bytes: &mut Vec<u8>, text: &[char]) -> Result<(), NoMemory>
     ensures { OnOk result (bytes.new.items ≡ bytes.old.items ++ escaped text.now) }
 {
     bytes.reserve(text.len())?;
-    for character in text {
-        push_char(bytes, *character)?;
+    let mut rest = text;
+    while rest.len() > FEW {
+        let (few, more) = rest.split_at(FEW);
+        push_few(bytes, few)?;
+        rest = more;
     }
-    Ok(())
+    push_few(bytes, rest)
 }
 
 /// Writes the bytes of a name, each as a character with its escape.
 pub(crate) fn push_name(bytes: &mut Vec<u8>, name: &[u8]) -> Result<(), NoMemory>
     ensures { OnOk result (bytes.new.items ≡ bytes.old.items ++ escaped name.now) }
 {
+    let mut left = name.len();
+    bytes.reserve(left)?;
     for byte in name {
-        push_char(bytes, char::from(*byte))?;
+        if is_plain(char::from(*byte)) {
+            bytes.push_reserved(*byte);
+        } else {
+            push_escape(bytes, char::from(*byte))?;
+            bytes.reserve(left)?;
+        }
+        left -= 1;
     }
     Ok(())
 }

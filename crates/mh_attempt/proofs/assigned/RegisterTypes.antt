@@ -17,7 +17,7 @@ use Rattle.mh_attempt.proofs.assigned.AssignedHolds.{holds_found, found-of, many
 -- ---- seats
 
 -- the same holds in another order are held
-held-same : (seat : SeatView) (a b : List HoldView) → Same a b → AreOf seat.table.holders a → AreHeld seat b → AreHeld seat a
+pub held-same : (seat : SeatView) (a b : List HoldView) → Same a b → AreOf seat.table.holders a → AreHeld seat b → AreHeld seat a
 held-same seat a b same of_table all = record {
   tables = of_table;
   held = record { counts = λ k t. let c = same.counts k t in let h = all.held.counts k t in omega (arith, c, h) };

@@ -2,6 +2,7 @@
 use denote.Ref.{Bor}
 use Rattle.std.proofs.Common.{◌≡◌, sym, subst, ℕ, List, [], ◌++◌, Result}
 use Rattle.mh_intern.specs.Exchanges.{AreHeld, Exchanges}
+use Rattle.mh_intern.specs.Views.{HoldView}
 use Rattle.mh_leaf.specs.LeafTable.{LeafTable}
 use Rattle.mh_handle.specs.declared.error.HandleError.{HandleError}
 use Rattle.mh_handle.specs.declared.handle.Handle.{Handle}
@@ -12,17 +13,17 @@ use Rattle.mh_attempt.specs.declared.registers.Held.{Held}
 use Rattle.mh_attempt.specs.declared.registers.Registers.{Registers}
 use Rattle.mh_link.specs.Operands.{Frame}
 use Rattle.mh_attempt.specs.Operations.{MakesOperation}
-use Rattle.mh_attempt.specs.Registers.{AreHeldBy, Hold, HoldSame, HoldSome, assigned_to, holds_in, holds_of}
-use Rattle.mh_attempt.specs.Runs.{Replaces}
-use Rattle.mh_attempt.specs.Several.{Adds, AddsTypes}
+use Rattle.mh_attempt.specs.Registers.{AreHeldBy, Hold, HoldOthers, HoldSame, HoldSome, assigned_to, holds_in, holds_of}
+use Rattle.mh_attempt.specs.Runs.{Replaces, ReplacesTypes}
 use Rattle.mh_attempt.proofs.types.Adding.{adds-none}
 use Rattle.mh_attempt.proofs.types.Replacing.{replaces-held, replaces-more, replaces-none}
 use Rattle.mh_attempt.proofs.assigned.RunRegisters.{same-hold}
 
--- what the operation of a line leaves
-pub record MakesLine (registers : Registers) (op : Operation) (old new : Work) (r : Result Handle HandleError) : Type 0 where
+-- what the operation of a line leaves, whose handle the register of this name gets
+pub record MakesLine (name : List ℕ) (registers left : Registers) (op : Operation) (old new : Work) (r : Result Handle HandleError) : Type 0 where
   pub goes_on : GoesOn 4 old new
-  pub types : AddsTypes old new r
+  pub types : ReplacesTypes registers left old new r
+  pub others : HoldOthers name registers left
   pub line : (frame : Frame) → Hold old.leaves.now registers frame → MakesOperation frame op old new r
 
 -- what the assignment of a register leaves
@@ -46,12 +47,17 @@ pub roomy-replaces : (w : Work) (before roomy : Registers) → HoldSame before r
 roomy-replaces w before roomy same kept =
     subst (λ l. Replaces (holds_in before.assigned.items) (holds_in l) w w) (sym same.assigned) (replaces-none (holds_in before.assigned.items) w kept)
 
--- the types of a handle that a line made, and of what registers hold
-pub made-kept : (before roomy : Registers) (h : Handle) (old new : Work) → HoldSame before roomy → AreHeldBy old.seat.now before → Adds h.held old new →
-    HoldsTypes new (holds_in roomy.assigned.items ++ h.held)
-made-kept before roomy h old new same kept adds =
-    replaces-held (holds_in before.assigned.items) (holds_in roomy.assigned.items ++ h.held) old new kept
-    (replaces-more (holds_in before.assigned.items) (holds_in roomy.assigned.items) h.held old old new (roomy-replaces old before roomy same kept) adds)
+-- what the line changes, it changes from what the registers had before
+pub roomy-then : (before roomy : Registers) (came : List HoldView) (old new : Work) → HoldSame before roomy →
+    Replaces (holds_in roomy.assigned.items) came old new → Replaces (holds_in before.assigned.items) came old new
+roomy-then before roomy came old new same x = subst (λ l. Replaces (holds_in l) came old new) same.assigned x
+
+-- the types of a handle that a line made, and of what registers are left with
+pub made-kept : (before roomy left : Registers) (h : Handle) (old new : Work) → HoldSame before roomy → AreHeldBy old.seat.now before →
+    Replaces (holds_in roomy.assigned.items) (holds_in left.assigned.items ++ h.held) old new → HoldsTypes new (holds_in left.assigned.items ++ h.held)
+made-kept before roomy left h old new same kept x =
+    let came = holds_in left.assigned.items ++ h.held in
+    replaces-held (holds_in before.assigned.items) came old new kept (roomy-then before roomy came old new same x)
 
 pub number-kept : (before roomy : Registers) (w : Work) → HoldSame before roomy → AreHeldBy w.seat.now before →
     HoldsTypes w (holds_in roomy.assigned.items ++ [])

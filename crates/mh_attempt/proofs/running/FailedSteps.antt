@@ -1,5 +1,5 @@
 -- Lines that are not carried out.
-use Rattle.std.proofs.Common.{◌≡◌, refl, sym, subst, ℕ, List, [], Result, Ok, Err}
+use Rattle.std.proofs.Common.{◌≡◌, refl, sym, ◌∙◌, subst, ℕ, List, [], Result, Ok, Err}
 use Rattle.std.specs.Prelude.{IsErrAnd}
 use Rattle.mh_leaf.specs.LeafTable.{LeafTable}
 use Rattle.mh_tree.specs.declared.error.CheckError.{CheckError}
@@ -23,17 +23,15 @@ use Rattle.mh_attempt.specs.Asked.{AsksOrThrows}
 use Rattle.mh_attempt.specs.AskedTypes.{AsksTypesOrThrows}
 use Rattle.mh_attempt.specs.Lines.{MakesNode, passes}
 use Rattle.mh_attempt.specs.Registers.{AreHeldBy, Hold, HoldSame, holds_in}
-use Rattle.mh_attempt.specs.Runs.{RunsStep, TellsStep, step_recipes, step_types}
-use Rattle.mh_attempt.specs.Several.{Adds}
+use Rattle.mh_attempt.specs.Runs.{Replaces, RunsStep, TellsStep, step_recipes, step_types}
 use Rattle.mh_attempt.specs.Told.{Tells}
-use Rattle.mh_attempt.proofs.types.Adding.{adds-none}
 use Rattle.mh_attempt.proofs.asked.AskedAfter.{asked_more-none}
 use Rattle.mh_attempt.proofs.asked.AskedLines.{asks-error}
 use Rattle.mh_attempt.proofs.types.AskingTypes.{no_other-still, types-handed}
-use Rattle.mh_attempt.proofs.types.Replacing.{replaces-still}
+use Rattle.mh_attempt.proofs.types.Replacing.{replaces-none}
 use Rattle.mh_attempt.proofs.assigned.RunRegisters.{same-hold}
 use Rattle.mh_attempt.proofs.running.Running.{let-thrown, pass-thrown}
-use Rattle.mh_attempt.proofs.assigned.RoomyRegisters.{MakesLine, roomy-replaces}
+use Rattle.mh_attempt.proofs.assigned.RoomyRegisters.{MakesLine, roomy-replaces, roomy-then}
 
 -- ---- a line that is not carried out
 
@@ -49,15 +47,14 @@ tells-error leaves next after error (Ok u) is tells = absurd is
 tells-error leaves next after error (Err x) is tells = subst (λ y. TellsStep leaves next after (Err y)) (sym is) tells
 
 step-fails : (s : Step) (before after : Registers) (old new : Work) (error : HandleError) (r : Result (Unit {0}) HandleError) → IsErrAnd r (λ x. x ≡ error) →
-    HoldSame before after → AreHeldBy old.seat.now before → GoesOn 4 old new → Adds [] old new → Fails s before after old new error →
-    RunsStep s before after old new r
-step-fails s before after old new error r is same kept goes adds fails =
+    GoesOn 4 old new → Replaces (holds_in before.assigned.items) (holds_in after.assigned.items) old new → after.serial ≡ before.serial →
+    Fails s before after old new error → RunsStep s before after old new r
+step-fails s before after old new error r is goes types serial fails =
     let leaves = old.leaves.now in
     record {
       goes_on = goes;
-      types =
-          replaces-still (holds_in before.assigned.items) (holds_in after.assigned.items) old old new (roomy-replaces old before after same kept) adds;
-      serial = same.serial;
+      types = types;
+      serial = serial;
       told = λ frame hold. tells-error leaves (stepped leaves s frame) after error r is (fails.told frame hold);
       asks = λ frame hold. asks-error Handle (step_recipes leaves s frame) old new error r is (fails.asks frame hold);
       asked = λ frame hold. types-handed Handle (step_types leaves s frame) old new error r is (fails.asked frame hold);
@@ -67,26 +64,27 @@ step-fails s before after old new error r is same kept goes adds fails =
 pub reserve-fails : (s : Step) (before after : Registers) (w : Work) (r : Result (Unit {0}) HandleError) → IsErrAnd r (λ x. x ≡ NoMemory) →
     HoldSame before after → AreHeldBy w.seat.now before → RunsStep s before after w w r
 reserve-fails s before after w r is same kept =
-    step-fails s before after w w NoMemory r is same kept (goes_on-none 4 w) (adds-none w) (record {
+    step-fails s before after w w NoMemory r is (goes_on-none 4 w) (roomy-replaces w before after same kept) same.serial (record {
       told = λ frame hold. tt;
       asks = λ frame hold. tt;
       asked = λ frame hold. no_other-still (step_types w.leaves.now s frame) w.seat.now;
     })
 
 -- no node was made
-pub node-fails : (name : List ℕ) (op : Operation) (before roomy : Registers) (old new : Work) (error : HandleError) (r : Result (Unit {0}) HandleError) →
-    IsErrAnd r (λ x. x ≡ error) → HoldSame before roomy → AreHeldBy old.seat.now before → MakesLine roomy op old new (Err error) →
-    RunsStep (step.Let name op) before roomy old new r
-node-fails name op before roomy old new error r is same kept made =
+pub node-fails : (name : List ℕ) (op : Operation) (at : List ℕ) (before roomy left : Registers) (old new : Work) (error : HandleError)
+    (r : Result (Unit {0}) HandleError) → IsErrAnd r (λ x. x ≡ error) → HoldSame before roomy → MakesLine at roomy left op old new (Err error) →
+    RunsStep (step.Let name op) before left old new r
+node-fails name op at before roomy left old new error r is same made =
     let leaves = old.leaves.now in
-    step-fails (step.Let name op) before roomy old new error r is same kept made.goes_on made.types (record {
+    step-fails (step.Let name op) before left old new error r is made.goes_on
+    (roomy-then before roomy (holds_in left.assigned.items) old new same made.types) (made.others.serial ∙ same.serial) (record {
       told = λ frame hold. cases frame error ((made.line frame (same-hold leaves before roomy frame same hold)).node);
       asks = λ frame hold. (made.line frame (same-hold leaves before roomy frame same hold)).asks;
       asked = λ frame hold. (made.line frame (same-hold leaves before roomy frame same hold)).asked;
     })
   where
     cases : (frame : Frame) (x : HandleError) → MakesNode (node_of old.leaves.now frame op) old new (Err x) →
-        TellsStep old.leaves.now (stepped old.leaves.now (step.Let name op) frame) roomy (Err x)
+        TellsStep old.leaves.now (stepped old.leaves.now (step.Let name op) frame) left (Err x)
     cases frame (Refused exc) makes = let-thrown old.leaves.now name op frame exc makes.0
     cases frame (FormsFull drawn) makes = tt
     cases frame (TypesFull bucket) makes = tt
@@ -97,8 +95,8 @@ pub pass-fails : (modulus remainder : ℕ) (registers : Registers) (w : Work) (e
     IsErrAnd r (λ x. x ≡ of_check error) → AreHeldBy w.seat.now registers → Tells {A = Unit {0}} (Err error) (passes registers.serial modulus remainder) →
     RunsStep (step.FailMod modulus remainder) registers registers w w r
 pass-fails modulus remainder registers w error r is kept tells =
-    step-fails (step.FailMod modulus remainder) registers registers w w (of_check error) r is (record { call = refl; serial = refl; assigned = refl }) kept
-    (goes_on-none 4 w) (adds-none w) (cases error tells)
+    step-fails (step.FailMod modulus remainder) registers registers w w (of_check error) r is (goes_on-none 4 w)
+    (replaces-none (holds_in registers.assigned.items) w kept) refl (cases error tells)
   where
     cases : (x : CheckError) → Tells {A = Unit {0}} (Err x) (passes registers.serial modulus remainder) →
         Fails (step.FailMod modulus remainder) registers registers w w (of_check x)

@@ -25,38 +25,39 @@ use Rattle.mh_attempt.proofs.assigned.RegisterTypes.{assigned-seated}
 use Rattle.mh_attempt.proofs.types.Replacing.{replaces-more, replaces-none, replaces-then}
 use Rattle.mh_attempt.proofs.assigned.RunRegisters.{assigned-hold, number-held, numbered, same-hold}
 use Rattle.mh_attempt.proofs.running.Running.{let-made, pass-stepped}
-use Rattle.mh_attempt.proofs.assigned.RoomyRegisters.{MakesLine, Assigns, roomy-replaces}
+use Rattle.mh_attempt.proofs.assigned.RoomyRegisters.{MakesLine, Assigns, roomy-replaces, roomy-then}
+use Rattle.mh_attempt.proofs.assigned.OtherRegisters.{over-hold}
 
 -- ---- a line that is carried out
 
-pub let-runs : (name : List ℕ) (op : Operation) (at : Bor (List ℕ)) (h : Handle) (before roomy after : Registers) (old mid new : Work) → at.now ≡ name →
-    HoldSame before roomy → AreHeldBy old.seat.now before → MakesLine roomy op old mid (Ok h) → Assigns at (held.Handle h) roomy after mid new →
+pub let-runs : (name : List ℕ) (op : Operation) (at : Bor (List ℕ)) (h : Handle) (before roomy left after : Registers) (old mid new : Work) → at.now ≡ name →
+    HoldSame before roomy → AreHeldBy old.seat.now before → MakesLine at.now roomy left op old mid (Ok h) → Assigns at (held.Handle h) left after mid new →
     RunsStep (step.Let name op) before after old new (Ok tt)
-let-runs name op at h before roomy after old mid new named same kept made assigns =
+let-runs name op at h before roomy left after old mid new named same kept made assigns =
     let leaves = old.leaves.now in
+    let came = holds_in left.assigned.items ++ h.held in
     record {
       goes_on =
           goes_on-before 4 old mid new made.goes_on assigns.unchanged
-          (assigned-seated at (held.Handle h) roomy.assigned.items after.assigned.items mid new assigns.assigned assigns.types);
+          (assigned-seated at (held.Handle h) left.assigned.items after.assigned.items mid new assigns.assigned assigns.types);
       types =
-          replaces-then (holds_in before.assigned.items) (holds_in roomy.assigned.items ++ h.held) (holds_in after.assigned.items) old mid new
-          (replaces-more (holds_in before.assigned.items) (holds_in roomy.assigned.items) h.held old old mid (roomy-replaces old before roomy same kept)
-          made.types) ([], assigns.types);
-      serial = assigns.serial ∙ same.serial;
+          replaces-then (holds_in before.assigned.items) came (holds_in after.assigned.items) old mid new
+          (roomy-then before roomy came old mid same made.types) ([], assigns.types);
+      serial = assigns.serial ∙ (made.others.serial ∙ same.serial);
       told = λ frame hold.
           let over = same-hold leaves before roomy frame same hold in
           let node = (made.line frame over).node in (
             assigning name (handle node.0) frame,
             let-made leaves name op frame node.0 node.1,
             subst (λ n. Hold leaves after (assigning n (handle node.0) frame)) named
-                (assigned-hold leaves roomy after at (held.Handle h) frame (handle node.0) assigns.call assigns.serial assigns.assigned over
+                (over-hold leaves roomy left after at (held.Handle h) frame (handle node.0) made.others assigns.call assigns.serial assigns.assigned over
                 (node.0, refl, node.2)),
           );
       asks = λ frame hold.
           asks-given_back {A = Unit {0}} (line_recipes leaves frame op) old mid new (Ok tt) assigns.unchanged.pass
           (made.line frame (same-hold leaves before roomy frame same hold)).asks;
       asked = λ frame hold.
-          no_other-back (line_types leaves frame op) (holds_in roomy.assigned.items ++ h.held) (holds_in after.assigned.items) old.seat.now mid.seat.now
+          no_other-back (line_types leaves frame op) came (holds_in after.assigned.items) old.seat.now mid.seat.now
           new.seat.now (made.line frame (same-hold leaves before roomy frame same hold)).asked assigns.types;
     }
 

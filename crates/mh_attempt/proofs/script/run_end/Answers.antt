@@ -5,8 +5,10 @@ use Rattle.mh_attempt.specs.Asked.{AsksOrThrows}
 use Rattle.mh_attempt.specs.AskedTypes.{AsksTypesOrThrows, end_types}
 use Rattle.mh_attempt.specs.Lines.{MakesNode}
 use Rattle.mh_attempt.specs.Recipes.{end_recipes}
-use Rattle.mh_attempt.proofs.types.Adding.{adds-none, adds-unmade}
+use Rattle.mh_attempt.specs.Registers.{holds_in}
 use Rattle.mh_attempt.proofs.types.AskingTypes.{no_other-still, types-refused}
+use Rattle.mh_attempt.proofs.types.Replacing.{replaces-none}
+use Rattle.mh_attempt.proofs.running.LastUses.{same-replaces}
 use Rattle.mh_attempt.proofs.script.run_end.Goals as goal
 
 pub returns-in-Return-clause-node : goal.returns-in-Return-clause-node
@@ -26,7 +28,10 @@ returns-in-Return-clause-asked g c frame hold =
 
 pub returns-in_err-exc-in-Raise-clause-types : goal.returns-in_err-exc-in-Raise-clause-types
 returns-in_err-exc-in-Raise-clause-types g c =
-    adds-unmade c.args.w.now c.args.w.now c.from_residual.result _ c.from_residual.ensures.1 (adds-none c.args.w.now)
+    same-replaces c.args.registers.now c.args.w.now c.from_residual.result _ c.from_residual.ensures.1 c.requires.kept
+
+pub returns-in_ok-exc-in-Raise-clause-types : goal.returns-in_ok-exc-in-Raise-clause-types
+returns-in_ok-exc-in-Raise-clause-types g c = replaces-none (holds_in c.args.registers.now.assigned.items) c.args.w.now c.requires.kept
 
 pub returns-in_err-exc-in-Raise-clause-asked : goal.returns-in_err-exc-in-Raise-clause-asked
 returns-in_err-exc-in-Raise-clause-asked g c frame hold =
@@ -37,4 +42,8 @@ returns-in_ok-exc-in-Raise-clause-asked g c frame hold = no_other-still (end_typ
 
 pub returns-in_err-exc-in-Value-clause-types : goal.returns-in_err-exc-in-Value-clause-types
 returns-in_err-exc-in-Value-clause-types g c =
-    adds-unmade c.args.w.now c.args.w.now c.from_residual-in_err-exc-in-Value.result _ c.from_residual-in_err-exc-in-Value.ensures.1 (adds-none c.args.w.now)
+    same-replaces c.args.registers.now c.args.w.now c.from_residual-in_err-exc-in-Value.result _ c.from_residual-in_err-exc-in-Value.ensures.1
+    c.requires.kept
+
+pub returns-in_ok-exc-in-Value-clause-types : goal.returns-in_ok-exc-in-Value-clause-types
+returns-in_ok-exc-in-Value-clause-types g c = replaces-none (holds_in c.args.registers.now.assigned.items) c.args.w.now c.requires.kept

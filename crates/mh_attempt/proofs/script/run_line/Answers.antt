@@ -24,17 +24,18 @@ node-requires-clause-kept g c =
 pub returns-in_err-handle-in-Let : goal.returns-in_err-handle-in-Let
 returns-in_err-handle-in-Let g c =
     let made = c.in_err-handle-in-Let.ensures in
-    subst (λ s. RunsStep s c.args.registers.now c.reserve.new.self c.args.w.now c.node.new.w c.from_residual-in_err-handle-in-Let.result) (sym c.in-Let.is)
-    (node-fails c.in-Let.name c.in-Let.operation c.args.registers.now c.reserve.new.self c.args.w.now c.node.new.w c.in_err-handle-in-Let.field-0.0
-    c.from_residual-in_err-handle-in-Let.result c.from_residual-in_err-handle-in-Let.ensures.1 c.in_ok-reserve-in-Let.ensures.same c.requires.kept
-    (record { goes_on = made.goes_on; types = made.types; line = made.line }))
+    subst (λ s. RunsStep s c.args.registers.now c.node.new.registers c.args.w.now c.node.new.w c.from_residual-in_err-handle-in-Let.result) (sym c.in-Let.is)
+    (node-fails c.in-Let.name c.in-Let.operation c.as_slice-name.result.now c.args.registers.now c.reserve.new.self c.node.new.registers c.args.w.now
+    c.node.new.w c.in_err-handle-in-Let.field-0.0 c.from_residual-in_err-handle-in-Let.result c.from_residual-in_err-handle-in-Let.ensures.1
+    c.in_ok-reserve-in-Let.ensures.same (record { goes_on = made.goes_on; types = made.types; others = made.others; line = made.line }))
 
 pub assign-requires-clause-of_types : goal.assign-requires-clause-of_types
 assign-requires-clause-of_types g c = of-types 4 4 c.args.w.now c.node.new.w c.in_ok-handle-in-Let.ensures.goes_on c.requires.ready
 
 pub assign-requires-clause-kept : goal.assign-requires-clause-kept
 assign-requires-clause-kept g c =
-    made-kept c.args.registers.now c.reserve.new.self c.in_ok-handle-in-Let.handle c.args.w.now c.node.new.w c.in_ok-reserve-in-Let.ensures.same
+    made-kept c.args.registers.now c.reserve.new.self c.node.new.registers c.in_ok-handle-in-Let.handle c.args.w.now c.node.new.w
+    c.in_ok-reserve-in-Let.ensures.same
     c.requires.kept c.in_ok-handle-in-Let.ensures.types
 
 pub returns-in_ok-handle-in-Let : goal.returns-in_ok-handle-in-Let
@@ -42,9 +43,9 @@ returns-in_ok-handle-in-Let g c =
     let made = c.in_ok-handle-in-Let.ensures in
     let given = c.assign.ensures in
     subst (λ s. RunsStep s c.args.registers.now c.assign.new.self c.args.w.now c.assign.new.w (Ok tt)) (sym c.in-Let.is)
-    (let-runs c.in-Let.name c.in-Let.operation c.as_slice.result c.in_ok-handle-in-Let.handle c.args.registers.now c.reserve.new.self c.assign.new.self
-    c.args.w.now c.node.new.w c.assign.new.w c.as_slice.ensures c.in_ok-reserve-in-Let.ensures.same c.requires.kept
-    (record { goes_on = made.goes_on; types = made.types; line = made.line })
+    (let-runs c.in-Let.name c.in-Let.operation c.as_slice-name.result c.in_ok-handle-in-Let.handle c.args.registers.now c.reserve.new.self c.node.new.registers
+    c.assign.new.self c.args.w.now c.node.new.w c.assign.new.w c.as_slice-name.ensures c.in_ok-reserve-in-Let.ensures.same c.requires.kept
+    (record { goes_on = made.goes_on; types = made.types; others = made.others; line = made.line })
     (record { call = given.call; serial = given.serial; assigned = given.assigned; unchanged = given.unchanged; types = given.types }))
 
 -- ---- `serial`
@@ -65,8 +66,8 @@ pub returns-in_ok-reserve-in-Serial : goal.returns-in_ok-reserve-in-Serial
 returns-in_ok-reserve-in-Serial g c =
     let given = c.assign-in-Serial.ensures in
     subst (λ s. RunsStep s c.args.registers.now c.assign-in-Serial.new.self c.args.w.now c.assign-in-Serial.new.w (Ok tt)) (sym c.in-Serial.is)
-    (serial-runs c.in-Serial.name c.as_slice-in-Serial.result c.args.registers.now c.reserve-in-Serial.new.self c.assign-in-Serial.new.self
-    c.args.w.now c.assign-in-Serial.new.w c.as_slice-in-Serial.ensures c.in_ok-reserve-in-Serial.ensures.same c.requires.kept
+    (serial-runs c.in-Serial.name c.as_slice.result c.args.registers.now c.reserve-in-Serial.new.self c.assign-in-Serial.new.self
+    c.args.w.now c.assign-in-Serial.new.w c.as_slice.ensures c.in_ok-reserve-in-Serial.ensures.same c.requires.kept
     (rw c.in_ok-reserve-in-Serial.ensures.same.serial c.requires.serial)
     (record { call = given.call; serial = given.serial; assigned = given.assigned; unchanged = given.unchanged; types = given.types }))
 

@@ -92,7 +92,8 @@ returns g c =
     let within : i ≤ length steps = search rules in
     let past : length steps ≤ i = search rules in
     let last = c.run_end.ensures in
-    run-ends i steps c.args.end.now c.args.registers.now c.loop-step.registers c.args.w.now c.loop-step.w c.run_end.new.w c.run_end.result
+    run-ends i steps c.args.end.now c.args.registers.now c.loop-step.registers c.run_end.new.registers c.args.w.now c.loop-step.w c.run_end.new.w
+    c.run_end.result
     (omega (arith, within))
     (subst (λ l. HasRun i steps l c.args.end.now c.args.registers.now c.loop-step.registers c.args.w.now c.loop-step.w) (drop-all steps i past)
     c.loop-step.invariant)

@@ -10,10 +10,12 @@ stop_of-requires-clause-types g c = c.in-Err.ensures.of.types ∙ ap (λ types. 
 
 pub stop_of-requires-clause-stopped : goal.stop_of-requires-clause-stopped
 stop_of-requires-clause-stopped g c =
-    stops-linking g.J.Run.given c.requires.constants c.link_all-linkages.new.w.pass.now c.link_all-linkages.new.w.seat.now c.link_all-linkages.new.asked c.settle.ensures.is
+    let linked = c.link_all-linkages.new in
+    stops-linking g.J.Run.given c.requires.constants linked.w.pass.now linked.w.seat.now linked.asked c.settle.ensures.is
     c.in_ok-settle.ensures.put c.in-Err.error c.in-Err.ensures.stopped
 
 pub returns-in-Ok-clause-linked : goal.returns-in-Ok-clause-linked
 returns-in-Ok-clause-linked g c =
-    all-linked g.J.Run.given c.requires.constants c.link_all-linkages.new.w.pass.now c.link_all-linkages.new.w.seat.now c.link_all-linkages.new.asked c.settle.ensures.is
+    let linked = c.link_all-linkages.new in
+    all-linked g.J.Run.given c.requires.constants linked.w.pass.now linked.w.seat.now linked.asked c.settle.ensures.is
     c.in_ok-settle.ensures.put c.in-Ok.linkages c.in-Ok.ensures.linked c.in-Ok.ensures.linkages

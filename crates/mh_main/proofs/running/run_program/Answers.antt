@@ -5,14 +5,14 @@ use Rattle.mh_main.proofs.running.run_program.Goals as goal
 
 pub returns-in-Ok-clause-report : goal.returns-in-Ok-clause-report
 returns-in-Ok-clause-report g c = λ done. (
-  c.in-Ok.text.items,
+  c.in-Ok.report,
   (search rules, search rules, search rules, search rules),
   search rules,
 )
 
 pub returns-in-Ok-clause-broken : goal.returns-in-Ok-clause-broken
 returns-in-Ok-clause-broken g c = λ failed. (
-  c.in-Ok.text.items,
+  c.in-Ok.report,
   inl (search rules, search rules, search rules, search rules),
   search rules,
 )

@@ -1,6 +1,0 @@
-use Rattle.std.proofs.Common.{◌≡◌, drop}
-use Rattle.mh_condy_tests.specs.Built.{are_below}
-use Rattle.mh_condy_tests.proofs.built.are_below.Given as goal
-
-abbrev pub invariant-loop-name : goal.invariant-loop-name
-invariant-loop-name l = are_below l.below l.names ≡ are_below l.below (drop l.name-index l.names)

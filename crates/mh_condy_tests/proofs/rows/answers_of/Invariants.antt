@@ -1,5 +1,0 @@
-use Rattle.mh_condy_tests.specs.Built.{run_of}
-use Rattle.mh_condy_tests.proofs.rows.answers_of.Given as goal
-
-abbrev pub ghosts-asked : goal.ghosts-asked
-ghosts-asked g a = record { run = run_of a.built.now }
