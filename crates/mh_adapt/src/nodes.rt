@@ -1,6 +1,6 @@
 //! What an adapter adds to a handle, found from the handle.
 
-ghost use Rattle.std.specs.Prelude.{◌≡◌, IfOk, map};
+ghost use Rattle.std.specs.Prelude.{◌≡◌, IfOk, map, option_to_list};
 ghost use Rattle.mh_convert.specs.Conversion.{fit};
 ghost use Rattle.mh_form.specs.Erasure.{basic_of};
 ghost use Rattle.mh_handle.specs.Stands.{IsShaped};
@@ -10,8 +10,8 @@ ghost use Rattle.mh_adapt.specs.Parts.{AddsNode, adapter_fields, adapter_key, bo
 use mh_base::{Copied, NoMemory, Seq};
 use mh_convert::fit;
 use mh_edit::Key;
-use mh_form::{Basics, Field, Fields, erase, shape};
-use mh_handle::{Growth, Handle, Parts, Work, one_field};
+use mh_form::{Basics, Field, erase, shape};
+use mh_handle::{Growth, Handle, Parts, Work};
 use mh_tree::Adapter;
 use mh_values::{Classes, MethodTy, Ty, Tys, Value};
 use std::alloc::Global;
@@ -45,36 +45,29 @@ fn adapter_key(alloc: Global, adapter: &Adapter<'_>) -> Result<Key, NoMemory>
 }
 
 /// The field of a bound value, converted to the parameter's type: `None` if it does not fit.
-fn bound_fields<'t>(
-    alloc: Global,
-    value: Value,
-    ty: Ty,
-    classes: &Classes,
-) -> Result<Fields<'t>, NoMemory>
-    ensures { IfOk result (λ fields. fields.items ≡ bound_fields (fit classes.now value ty)) }
+fn bound_field<'t>(value: Value, ty: Ty, classes: &Classes) -> Option<Field<'t>>
+    ensures { option_to_list result ≡ bound_fields (fit classes.now value ty) }
 {
     match fit(value, ty, classes) {
-        Ok(fitting) => one_field(alloc, Field::Val(erase(fitting))),
-        Err(_) => Ok(Vec::new(alloc)),
+        Ok(fitting) => Some(Field::Val(erase(fitting))),
+        Err(_) => None,
     }
 }
 
-/// The fields of an adapter of a target of this type.
-fn adapter_fields<'t>(
-    alloc: Global,
+/// The field of an adapter of a target of this type.
+fn adapter_field<'t>(
     adapter: Adapter<'_>,
     target: &MethodTy,
     classes: &Classes,
-) -> Result<Fields<'t>, NoMemory>
-    ensures { IfOk result (λ fields. fields.items
-        ≡ adapter_fields classes.now adapter.entry target.now) }
+) -> Option<Field<'t>>
+    ensures { option_to_list result ≡ adapter_fields classes.now adapter.entry target.now }
 {
     let Adapter::Bind { position, value } = adapter else {
-        return Ok(Vec::new(alloc));
+        return None;
     };
     match target.params.as_slice().get(usize::from(position)) {
-        Some(ty) => bound_fields(alloc, value, *ty, classes),
-        None => Ok(Vec::new(alloc)),
+        Some(ty) => bound_field(value, *ty, classes),
+        None => None,
     }
 }
 
@@ -92,11 +85,11 @@ pub(crate) fn adapter_growth<'t>(
 {
     let own = target.ty();
     let key = adapter_key(w.alloc, &adapter)?;
-    let fields = adapter_fields(w.alloc, adapter, own, w.classes())?;
+    let field = adapter_field(adapter, own, w.classes());
     Ok(Growth {
         ty,
         weight: 1 + target.weight(),
         key,
-        parts: Parts::of_fields(w.alloc, fields),
+        parts: Parts::of_field(w.alloc, field),
     })
 }

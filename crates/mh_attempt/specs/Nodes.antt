@@ -6,9 +6,8 @@ use Rattle.mh_intern.specs.Views.{SeatView}
 use Rattle.mh_leaf.specs.LeafTable.{LeafTable}
 use Rattle.mh_tree.specs.declared.error.CheckError.{CheckError}
 use Rattle.mh_tree.specs.declared.error.CheckError.TheVariants as check
-use Rattle.mh_tree.specs.declared.joints.Joint.{Joint}
 use Rattle.mh_tree.specs.Joints.{joint_row, joint_tree}
-use Rattle.mh_tree.specs.Rows.{TypeOrRefusal, bind_row, catch_row, drop_row, gather_row, permute_row, tryfinally_row}
+use Rattle.mh_tree.specs.Rows.{TypeOrRefusal, bind_row, catch_row, counted_row, drop_row, gather_row, guard_row, permute_row, tryfinally_row}
 use Rattle.mh_tree.specs.Tree.{Cases, Tree, weight}
 use Rattle.mh_tree.specs.Tree as tree
 use Rattle.mh_tree.specs.Typing.{type_of}
@@ -23,6 +22,8 @@ use Rattle.mh_attempt.specs.declared.lines.nodes.Node.{Node}
 use Rattle.mh_attempt.specs.declared.lines.nodes.Node.TheVariants as node
 use Rattle.mh_attempt.specs.declared.lines.nodes.OfOne.{OfOne}
 use Rattle.mh_attempt.specs.declared.lines.nodes.OfOne.TheVariants as one
+use Rattle.mh_attempt.specs.declared.lines.nodes.OfThree.{OfThree}
+use Rattle.mh_attempt.specs.declared.lines.nodes.OfThree.TheVariants as three
 use Rattle.mh_attempt.specs.declared.lines.nodes.OfTwo.{OfTwo}
 use Rattle.mh_attempt.specs.declared.lines.nodes.OfTwo.TheVariants as two
 use Rattle.mh_attempt.specs.declared.registers.Registers.{Registers}
@@ -58,6 +59,16 @@ two_tree (two.Joint j) t p = joint_tree j t p
 two_tree (two.Catch class) t p = tree.Catch t class p
 two_tree two.TryFinally t p = tree.TryFinally t p
 
+-- the type that a combinator of three handles gives to them, or the exception that refuses it
+abbrev pub three_row : OfThree → MethodTy → ℕ → MethodTy → ℕ → MethodTy → ℕ → TypeOrRefusal
+three_row three.Guard test l target n fallback m = guard_row test l target n fallback m
+three_row three.Counted iterations l init n body m = counted_row iterations l init n body m
+
+-- its tree
+abbrev pub three_tree : OfThree → Tree → Tree → Tree → Tree
+three_tree three.Guard a b c = tree.Guard a b c
+three_tree three.Counted a b c = tree.Counted a b c
+
 -- ---- what an operation asks for
 
 -- it asks for this tree, and makes itself only the form of this tree
@@ -73,10 +84,8 @@ IsAsked leaves (node.Identity ty) m itself = IsAlone m itself (tree.Identity ty)
 IsAsked leaves (node.Throw ret class) m itself = IsAlone m itself (tree.Throw ret class)
 IsAsked leaves (node.One h by) m itself = (t : Tree) × StandsFor leaves h t × IsAlone m itself (one_tree by t)
 IsAsked leaves (node.Two h by k) m itself = (t : Tree) × (p : Tree) × StandsFor leaves h t × StandsFor leaves k p × IsAlone m itself (two_tree by t p)
-IsAsked leaves (node.Guard f h k) m itself =
-    (c : Tree) × (t : Tree) × (e : Tree) × StandsFor leaves f c × StandsFor leaves h t × StandsFor leaves k e × IsAlone m itself (tree.Guard c t e)
-IsAsked leaves (node.Counted c i b) m itself =
-    (n : Tree) × (s : Tree) × (t : Tree) × StandsFor leaves c n × StandsFor leaves i s × StandsFor leaves b t × IsAlone m itself (tree.Counted n s t)
+IsAsked leaves (node.Three f by h k) m itself =
+    (a : Tree) × (b : Tree) × (c : Tree) × StandsFor leaves f a × StandsFor leaves h b × StandsFor leaves k c × IsAlone m itself (three_tree by a b c)
 IsAsked leaves (node.Switch h os) m itself =
     (t : Tree) × (ts : Cases) × StandsFor leaves h t × StandForEach leaves os ts × IsAlone m itself (tree.Switch t ts)
 IsAsked leaves (node.Spread h array count) m itself =
@@ -95,8 +104,7 @@ TellsNode leaves (Err check.NoMemory) m itself = Unit {0}
 abbrev pub parts_of : Node → List HandleOperand
 parts_of (node.One h by) = h ∷ []
 parts_of (node.Two h by k) = h ∷ k ∷ []
-parts_of (node.Guard f h k) = f ∷ h ∷ k ∷ []
-parts_of (node.Counted c i b) = c ∷ i ∷ b ∷ []
+parts_of (node.Three f by h k) = f ∷ h ∷ k ∷ []
 parts_of (node.Switch h os) = h ∷ os
 parts_of (node.Spread h array count) = h ∷ []
 parts_of (node.Use h by asked) = h ∷ []
@@ -106,8 +114,7 @@ parts_of _ = []
 abbrev pub AreHeldIn : SeatView → Node → Type 0
 AreHeldIn seat (node.One h by) = IsHeldIn seat h
 AreHeldIn seat (node.Two h by k) = IsHeldIn seat h × IsHeldIn seat k
-AreHeldIn seat (node.Guard f h k) = IsHeldIn seat f × IsHeldIn seat h × IsHeldIn seat k
-AreHeldIn seat (node.Counted c i b) = IsHeldIn seat c × IsHeldIn seat i × IsHeldIn seat b
+AreHeldIn seat (node.Three f by h k) = IsHeldIn seat f × IsHeldIn seat h × IsHeldIn seat k
 AreHeldIn seat (node.Switch h os) = IsHeldIn seat h × AreAllHeldIn seat os
 AreHeldIn seat (node.Spread h array count) = IsHeldIn seat h
 AreHeldIn seat (node.Use h by asked) = IsHeldIn seat h
@@ -119,12 +126,20 @@ AreHeldIn seat _ = Unit {0}
 abbrev pub asked_of : LeafTable → Operation → Frame → OrThrown Tree
 asked_of leaves op frame = asked_by leaves frame op
 
--- the tree that a joint of the handles of two registers asks for
-abbrev pub joint_asked : Register → Joint → Register → Frame → OrThrown Tree
-joint_asked h joint f frame = do
+-- the tree that a combinator of the handles of two registers asks for
+abbrev pub two_asked : Register → OfTwo → Register → Frame → OrThrown Tree
+two_asked h by f frame = do
   target ← handle_in frame h
   part ← handle_in frame f
-  Ok (joint_tree joint target part)
+  Ok (two_tree by target part)
+
+-- the same for three registers
+abbrev pub three_asked : Register → OfThree → Register → Register → Frame → OrThrown Tree
+three_asked f by h k frame = do
+  first ← handle_in frame f
+  second ← handle_in frame h
+  third ← handle_in frame k
+  Ok (three_tree by first second third)
 
 -- the answer is the node that is asked for, which makes itself only its own form
 abbrev pub TellsAlone : (Frame → OrThrown Tree) → LeafTable → Registers → Result Node CheckError → Type 0
@@ -161,8 +176,7 @@ abbrev pub AreOperands : LeafTable → SeatView → Node → Type 0
 AreOperands leaves seat (node.Leaf l) = l.0 < length leaves.leaves
 AreOperands leaves seat (node.One h by) = IsOperand leaves seat h
 AreOperands leaves seat (node.Two h by k) = IsOperand leaves seat h × IsOperand leaves seat k
-AreOperands leaves seat (node.Guard f h k) = IsOperand leaves seat f × IsOperand leaves seat h × IsOperand leaves seat k
-AreOperands leaves seat (node.Counted c i b) = IsOperand leaves seat c × IsOperand leaves seat i × IsOperand leaves seat b
+AreOperands leaves seat (node.Three f by h k) = IsOperand leaves seat f × IsOperand leaves seat h × IsOperand leaves seat k
 AreOperands leaves seat (node.Switch h os) = IsOperand leaves seat h × AreAllOperands leaves seat os
 AreOperands leaves seat (node.Spread h array count) = IsOperand leaves seat h
 AreOperands leaves seat (node.Use h by asked) = IsOperand leaves seat h

@@ -194,6 +194,9 @@ fn as_class(alloc: Global, held: Content<'_, '_, '_>) -> Result<Ty, CheckError>
     }
 }
 
+/// The registers for which a script takes memory at first: less than a kilobyte.
+const FIRST_REGISTERS: usize = 9;
+
 impl<'f, 't> Registers<'f, 't> {
     /// The registers of a script before its first line.
     pub fn new(alloc: Global, call: &'f BootstrapCall, serial: u64) -> Registers<'f, 't>
@@ -214,7 +217,12 @@ impl<'f, 't> Registers<'f, 't> {
         ensures same { HoldSame self.old self.new }
         ensures room { OnOk result (HasRoomForName self.new) }
     {
-        self.assigned.reserve(1)?;
+        let more = if self.assigned.is_empty() {
+            FIRST_REGISTERS
+        } else {
+            1
+        };
+        self.assigned.reserve(more)?;
         Ok(())
     }
 

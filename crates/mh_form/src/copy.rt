@@ -1,4 +1,4 @@
-ghost use Rattle.std.specs.Prelude.{◌≡◌, IfOk, map};
+ghost use Rattle.std.specs.Prelude.{◌≡◌, ◌++◌, ◌∷◌, [], IfOk, OnOk, map};
 ghost use Rattle.mh_leaf.specs.LeafTable.{LeafTable};
 ghost use Rattle.mh_form.specs.Run.{sense};
 
@@ -26,16 +26,41 @@ pub fn copy_field<'t>(alloc: Global, field: &Field<'t>) -> Result<Field<'t>, NoM
     }
 }
 
-/// Copies of fields, in their order.
+/// Copies of fields, in their order, with room for one more.
 pub fn copy_fields<'t>(alloc: Global, fields: &[Field<'t>]) -> Result<Fields<'t>, NoMemory>
     ensures { (table : LeafTable) → IfOk result
         (λ copies. map (sense table) copies.items ≡ map (sense table) fields.now) }
 {
-    let mut copies = Vec::with_capacity(alloc, fields.len())?;
+    let mut copies = Vec::with_capacity(alloc, fields.len() + 1)?;
     for field in fields {
-        copies.push(copy_field(alloc, field)?)?;
+        push_copy(alloc, &mut copies, field)?;
     }
     Ok(copies)
+}
+
+// Puts a copy of a field at the end. A field of each kind is written where it is copied.
+#[inline(always)]
+fn push_copy<'t>(alloc: Global, copies: &mut Fields<'t>, field: &Field<'t>) -> Result<(), NoMemory>
+    ensures { (table : LeafTable) → OnOk result (map (sense table) copies.new.items
+        ≡ map (sense table) copies.old.items ++ sense table field.now ∷ []) }
+{
+    copies.reserve(1)?;
+    match field {
+        Field::Leaf(leaf) => {
+            copies.push_reserved(Field::Leaf(*leaf));
+            Ok(())
+        }
+        Field::Part(part) => {
+            let part = Arc::try_clone(part)?;
+            copies.push_reserved(Field::Part(part));
+            Ok(())
+        }
+        _ => {
+            let copy = copy_field(alloc, field)?;
+            copies.push_reserved(copy);
+            Ok(())
+        }
+    }
 }
 
 impl Copied for Basic {

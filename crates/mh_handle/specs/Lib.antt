@@ -2,6 +2,7 @@ pub mod Answers
 pub mod Chains
 pub mod Converting
 pub mod Errors
+pub mod Fields
 pub mod Form
 pub mod Grows
 pub mod Index

@@ -3,12 +3,14 @@ ghost use Rattle.mh_form.specs.Body.{nothing};
 ghost use Rattle.mh_edit.specs.Applied.{applied};
 ghost use Rattle.mh_edit.specs.Fit.{fits};
 ghost use Rattle.mh_intern.specs.Exchanges.{types_of};
+ghost use Rattle.mh_handle.specs.Fields.{fields_in};
 ghost use Rattle.mh_handle.specs.Form.{body_of};
 ghost use Rattle.mh_handle.specs.Stands.{HasShape, handle_body};
 ghost use Rattle.mh_handle.specs.Grows.{GrowsBy, base_handle, untyped};
 ghost use Rattle.mh_handle.specs.Works.{GoesOn, HoldsTypes, IsAccepted, IsReady, Makes, MakesForm, TradesForm, TradesTypes};
 
 use crate::error::HandleError;
+use crate::fields::FieldList;
 use crate::form::Form;
 use crate::handle::Handle;
 use crate::parts::Parts;
@@ -40,6 +42,7 @@ struct Untyped<'t> {
 }
 
 /// A hold of the type of a new handle, and its form.
+#[inline(always)]
 fn typed_form<'t, R: Wait>(
     w: &mut Work<'_, 't>,
     rt: &R,
@@ -65,6 +68,7 @@ fn typed_form<'t, R: Wait>(
 }
 
 /// The handle that an edit makes. If it makes none, it gives back the types of the side parts.
+#[inline(always)]
 fn make_from<'t, R: Wait>(
     w: &mut Work<'_, 't>,
     rt: &R,
@@ -119,6 +123,7 @@ fn make_from<'t, R: Wait>(
 impl<'t> Handle<'t> {
     /// The handle after an edit of its form. If none is made, the old handle and the parts of the
     /// growth are given back.
+    #[inline(always)]
     pub fn grown<R: Wait>(
         self,
         w: &mut Work<'_, 't>,
@@ -188,17 +193,21 @@ impl<'t> Handle<'t> {
 pub fn one_field<'t>(alloc: Global, field: Field<'t>) -> Result<Fields<'t>, NoMemory>
     ensures { IfOk result (λ fields. fields.items ≡ field.entry ∷ []) }
 {
-    let mut fields = Vec::new(alloc);
-    fields.push(field)?;
+    let mut fields = Vec::with_capacity(alloc, 1)?;
+    fields.push_reserved(field);
     Ok(fields)
 }
 
 /// Moves the items of a list behind those of another. If memory runs out, all stay where they are.
+#[inline(always)]
 fn move_behind<T>(items: &mut Vec<T>, more: &mut Vec<T>) -> Result<(), NoMemory>
     ensures moved { OnOk result (items.new.items ≡ items.old.items ++ more.old.items) }
     ensures err { OnErr result
         ((items.new.items ≡ items.old.items) × (more.new.items ≡ more.old.items)) }
 {
+    if more.is_empty() {
+        return Ok(());
+    }
     if items.is_empty() {
         // No item is copied, and no memory is asked for.
         std::mem::swap(items, more);
@@ -210,20 +219,20 @@ fn move_behind<T>(items: &mut Vec<T>, more: &mut Vec<T>) -> Result<(), NoMemory>
 
 /// Fields followed by others, and held types followed by others. If memory runs out, the types stay
 /// where they are.
+#[inline(always)]
 fn joined<'t>(
     fields: Fields<'t>,
-    more: Fields<'t>,
+    more: FieldList<'t>,
     held: &mut Vec<HeldType>,
     added: &mut Vec<HeldType>,
 ) -> Result<Fields<'t>, NoMemory>
-    ensures fields { IfOk result (λ all. all.items ≡ fields.entry.items ++ more.entry.items) }
+    ensures fields { IfOk result (λ all. all.items
+        ≡ fields.entry.items ++ fields_in more.entry) }
     ensures held { OnOk result (held.new.items ≡ held.old.items ++ added.old.items) }
     ensures err { OnErr result
         ((held.new.items ≡ held.old.items) × (added.new.items ≡ added.old.items)) }
 {
-    let mut fields = fields;
-    let mut more = more;
-    move_behind(&mut fields, &mut more)?;
+    let fields = more.after(fields)?;
     move_behind(held, added)?;
     Ok(fields)
 }

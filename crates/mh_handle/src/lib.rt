@@ -6,6 +6,7 @@ mod chain;
 mod copies;
 mod equality;
 mod error;
+mod fields;
 mod form;
 mod growth;
 mod handle;

@@ -1,8 +1,10 @@
-ghost use Rattle.std.specs.Prelude.{◌≡◌, ◌<◌, ◌≤◌, ◌+◌, ◌^◌, ◌++◌, ◌∷◌, [], IfOk, OnOk, OnErr, vec_len, vec_capacity};
+ghost use Rattle.std.specs.Prelude.{◌≡◌, ◌<◌, ◌≤◌, ◌+◌, ◌^◌, ◌++◌, ◌∷◌, [], IfOk, OnOk, OnErr, option_to_list, vec_len, vec_capacity};
 ghost use Rattle.mh_intern.specs.Exchanges.{Exchanges};
+ghost use Rattle.mh_handle.specs.Fields.{HasRoom, fields_in};
 ghost use Rattle.mh_handle.specs.Parts.{AddsHandle, no_parts};
 ghost use Rattle.mh_handle.specs.Works.{HoldsTypes, IsUnchanged};
 
+use crate::fields::FieldList;
 use crate::handle::Handle;
 use crate::work::Work;
 use mh_base::NoMemory;
@@ -16,12 +18,13 @@ use std::sync::Arc;
 /// handles, which become parts of another handle.
 #[derive(Drop)]
 pub struct Parts<'t> {
-    pub(crate) fields: Fields<'t>,
+    pub(crate) fields: FieldList<'t>,
     pub(crate) held: Vec<HeldType>,
 }
 
 impl<'t> Model for Parts<'t> {
     ghost use Rattle.std.specs.Prelude.{[]};
+    ghost use Rattle.mh_handle.specs.Fields.{fields_in};
     ghost use Rattle.mh_handle.specs.Parts.{PartsView};
 
     ghost Value = { PartsView };
@@ -35,7 +38,7 @@ impl<'t> Model for Parts<'t> {
     ghost use Rattle.mh_intern.specs.Exchanges.{types_of};
 
     ghost view = { λ p. record {
-      fields = p.fields.items;
+      fields = fields_in p.fields;
       sides = types_of p.held.items;
       held = p.held.items;
     } };
@@ -47,7 +50,17 @@ impl<'t> Parts<'t> {
         ensures { result ≡ no_parts }
     {
         Parts {
-            fields: Vec::new(alloc),
+            fields: FieldList::of(alloc, None),
+            held: Vec::new(alloc),
+        }
+    }
+
+    /// At most one field, which holds no handle.
+    pub fn of_field(alloc: Global, field: Option<Field<'t>>) -> Parts<'t>
+        ensures { result ≡ record no_parts { fields = option_to_list field.entry } }
+    {
+        Parts {
+            fields: FieldList::of(alloc, field),
             held: Vec::new(alloc),
         }
     }
@@ -57,7 +70,7 @@ impl<'t> Parts<'t> {
         ensures { result ≡ record no_parts { fields = fields.entry.items } }
     {
         Parts {
-            fields,
+            fields: FieldList::of_all(fields),
             held: Vec::new(alloc),
         }
     }
@@ -127,20 +140,20 @@ impl<'t> Parts<'t> {
 // handle and for `sides` side types. If memory runs out, nothing changes.
 fn room_for<'t>(
     alloc: Global,
-    fields: &mut Fields<'t>,
+    fields: &mut FieldList<'t>,
     held: &mut Vec<HeldType>,
     bound: Bound<'t>,
     sides: usize,
 ) -> Result<Arc<Bound<'t>, Global>, NoMemory>
     requires few { sides < 2 ^ 32 }
     ensures part { IfOk result (λ part. part.value ≡ bound.entry) }
-    ensures field { OnOk result (vec_len fields.new < vec_capacity fields.new) }
+    ensures field { OnOk result (HasRoom fields.new) }
     ensures room { OnOk result (vec_len held.new + (1 + sides) ≤ vec_capacity held.new) }
-    ensures fields { fields.new.items ≡ fields.old.items }
+    ensures fields { fields_in fields.new ≡ fields_in fields.old }
     ensures held { held.new.items ≡ held.old.items }
 {
     let part = Arc::new(alloc, bound)?;
-    fields.reserve(1)?;
+    fields.reserve()?;
     held.reserve(1 + sides)?;
     Ok(part)
 }

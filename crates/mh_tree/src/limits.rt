@@ -1,4 +1,4 @@
-ghost use Rattle.std.specs.Prelude.{◌≡◌, ◌+◌, ◌≤◌, nat_le, length, IfOk};
+ghost use Rattle.std.specs.Prelude.{◌≡◌, ◌+◌, ◌++◌, ◌≤◌, nat_le, length, IfOk, OnOk};
 ghost use Rattle.mh_values.specs.Computation.{spliced};
 ghost use Rattle.mh_tree.specs.Check.{TellsRow};
 ghost use Rattle.mh_tree.specs.Rows.{limited};
@@ -14,6 +14,7 @@ const MOST_WEIGHT: u64 = 256;
 
 /// The type, if it is within the limits: at most 254 argument slots, and a weight of at most 256.
 /// Otherwise refused with the combinator's word.
+#[inline(always)]
 pub(crate) fn limited(
     alloc: Global,
     word: &[u8],
@@ -32,6 +33,7 @@ pub(crate) fn limited(
 }
 
 /// These types with others in place of `taken` of them from a place on.
+#[inline(always)]
 pub(crate) fn spliced(
     alloc: Global,
     types: &[Ty],
@@ -42,8 +44,20 @@ pub(crate) fn spliced(
     requires { place + taken ≤ length types.now }
     ensures { IfOk result (λ all. all ≡ spliced place taken given.now types.now) }
 {
-    let mut all = Vec::from_slice(alloc, &types[..place])?;
-    all.extend_from_slice(given)?;
-    all.extend_from_slice(&types[place + taken..])?;
+    let mut all = Vec::with_capacity(alloc, types.len() - taken + given.len())?;
+    put_all(&mut all, &types[..place])?;
+    put_all(&mut all, given)?;
+    put_all(&mut all, &types[place + taken..])?;
     Ok(Seq::from_vec(all))
+}
+
+// Puts types at the end. It is quicker for no types than `extend_from_slice`.
+#[inline(always)]
+fn put_all(all: &mut Vec<Ty>, more: &[Ty]) -> Result<(), NoMemory>
+    ensures { OnOk result (all.new.items ≡ all.old.items ++ more.now) }
+{
+    if !more.is_empty() {
+        all.extend_from_slice(more)?;
+    }
+    Ok(())
 }

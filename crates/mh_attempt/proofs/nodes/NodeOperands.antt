@@ -23,9 +23,7 @@ are-operands leaves seat (node.Throw ret class) m itself is held = tt
 are-operands leaves seat (node.One h by) m itself is held = record { stands = (is.0, is.1); held = held }
 are-operands leaves seat (node.Two h by k) m itself is held =
     (record { stands = (is.0, is.2); held = held.0 }, record { stands = (is.1, is.3); held = held.1 })
-are-operands leaves seat (node.Guard f h k) m itself is held =
-    (record { stands = (is.0, is.3); held = held.0 }, record { stands = (is.1, is.4); held = held.1 }, record { stands = (is.2, is.5); held = held.2 })
-are-operands leaves seat (node.Counted f h k) m itself is held =
+are-operands leaves seat (node.Three f by h k) m itself is held =
     (record { stands = (is.0, is.3); held = held.0 }, record { stands = (is.1, is.4); held = held.1 }, record { stands = (is.2, is.5); held = held.2 })
 are-operands leaves seat (node.Switch h os) m itself is held =
     (record { stands = (is.0, is.2); held = held.0 }, all-operands leaves seat os is.1 is.3 held.1)

@@ -4,17 +4,17 @@ use Rattle.mh_values.specs.declared.class.Class.{Class}
 use Rattle.mh_values.specs.declared.types.MethodTy.{MethodTy}
 use Rattle.mh_leaf.specs.LeafTable.{LeafTable}
 use Rattle.mh_tree.specs.declared.joints.Joint.TheVariants as joint
-use Rattle.mh_tree.specs.Rows.{counted_row, guard_row}
 use Rattle.mh_tree.specs.Tree.{Tree, weight}
-use Rattle.mh_tree.specs.Tree as tree
 use Rattle.mh_tree.specs.Typing.{type_of, with_type}
 use Rattle.mh_handle.specs.Stands.{HandleView, Stands}
 use Rattle.mh_link.specs.Made.{nodes_of}
 use Rattle.mh_attempt.specs.declared.lines.nodes.OfOne.{OfOne}
 use Rattle.mh_attempt.specs.declared.lines.nodes.OfOne.TheVariants as one
+use Rattle.mh_attempt.specs.declared.lines.nodes.OfThree.{OfThree}
+use Rattle.mh_attempt.specs.declared.lines.nodes.OfThree.TheVariants as three
 use Rattle.mh_attempt.specs.declared.lines.nodes.OfTwo.{OfTwo}
 use Rattle.mh_attempt.specs.declared.lines.nodes.OfTwo.TheVariants as two
-use Rattle.mh_attempt.specs.Nodes.{IsTypedAs, one_row, one_tree, two_row, two_tree}
+use Rattle.mh_attempt.specs.Nodes.{IsTypedAs, one_row, one_tree, three_row, three_tree, two_row, two_tree}
 
 -- a handle has the type and the weight of its tree
 pub typed-handle : (leaves : LeafTable) (h : HandleView) (t : Tree) → Stands leaves h t → IsTypedAs leaves t h.ty h.weight
@@ -68,18 +68,22 @@ two-ruled leaves classes by t p ty part n m same first second =
     ∙ (λ i. with_type (first.typed i) (λ own. with_type (second.typed i)
     (λ other. two_row (sym same i) by own (sym first.weighed i) other (sym second.weighed i))))
 
--- ---- of a test, a target and a fallback
+-- ---- of three
 
-pub guard-ruled : (leaves : LeafTable) (c t e : Tree) (test ty other : MethodTy) (l n m : ℕ) → IsTypedAs leaves c test l → IsTypedAs leaves t ty n →
-    IsTypedAs leaves e other m → type_of leaves (tree.Guard c t e) ≡ guard_row test l ty n other m
-guard-ruled leaves c t e test ty other l n m first second third =
-    λ i. with_type (first.typed i) (λ a. with_type (second.typed i) (λ b. with_type (third.typed i)
-    (λ d. guard_row a (sym first.weighed i) b (sym second.weighed i) d (sym third.weighed i))))
+pub three-alone : (by : OfThree) (a b c : Tree) → nodes_of (three_tree by a b c) ≡ three_tree by a b c ∷ []
+three-alone three.Guard a b c = refl
+three-alone three.Counted a b c = refl
 
--- ---- of the parts of a loop
+three-typed : (leaves : LeafTable) (by : OfThree) (a b c : Tree) →
+    type_of leaves (three_tree by a b c)
+    ≡ with_type (type_of leaves a) (λ x. with_type (type_of leaves b) (λ y. with_type (type_of leaves c)
+    (λ z. three_row by x (weight a) y (weight b) z (weight c))))
+three-typed leaves three.Guard a b c = refl
+three-typed leaves three.Counted a b c = refl
 
-pub counted-ruled : (leaves : LeafTable) (n i b : Tree) (counts starts turns : MethodTy) (l k m : ℕ) → IsTypedAs leaves n counts l →
-    IsTypedAs leaves i starts k → IsTypedAs leaves b turns m → type_of leaves (tree.Counted n i b) ≡ counted_row counts l starts k turns m
-counted-ruled leaves n i b counts starts turns l k m first second third =
-    λ j. with_type (first.typed j) (λ x. with_type (second.typed j) (λ y. with_type (third.typed j)
-    (λ z. counted_row x (sym first.weighed j) y (sym second.weighed j) z (sym third.weighed j))))
+pub three-ruled : (leaves : LeafTable) (by : OfThree) (a b c : Tree) (x y z : MethodTy) (l n m : ℕ) → IsTypedAs leaves a x l → IsTypedAs leaves b y n →
+    IsTypedAs leaves c z m → type_of leaves (three_tree by a b c) ≡ three_row by x l y n z m
+three-ruled leaves by a b c x y z l n m first second third =
+    three-typed leaves by a b c
+    ∙ (λ i. with_type (first.typed i) (λ x. with_type (second.typed i) (λ y. with_type (third.typed i)
+    (λ z. three_row by x (sym first.weighed i) y (sym second.weighed i) z (sym third.weighed i)))))

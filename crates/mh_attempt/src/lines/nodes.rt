@@ -9,7 +9,7 @@ ghost use Rattle.mh_link.specs.Operands.{Frame};
 ghost use Rattle.mh_link.specs.Operations.{asked_by, handles_in};
 ghost use Rattle.mh_attempt.specs.Cases.{AreAllHeldIn, TellsCases};
 ghost use Rattle.mh_attempt.specs.Nodes.{KeepsTypes, MakesUses, TellsAlone, TellsNode};
-ghost use Rattle.mh_attempt.specs.Nodes.{asked_of, joint_asked};
+ghost use Rattle.mh_attempt.specs.Nodes.{asked_of, three_asked, two_asked};
 ghost use Rattle.mh_attempt.specs.Recipes.{asked_itself};
 ghost use Rattle.mh_attempt.specs.Registers.{AreHeldBy, Hold, node_made};
 
@@ -40,6 +40,14 @@ pub(crate) enum OfTwo {
     TryFinally,
 }
 
+/// A combinator of three handles. Those of a guard are a test, a target and a fallback. Those of a
+/// loop are what gives its end, what gives its start, and its body.
+#[derive(Clone, Copy)]
+pub(crate) enum OfThree {
+    Guard,
+    Counted,
+}
+
 /// A combinator with its operands, by the number of its handles. `Spread` and `Use` are
 /// cases of their own because they may ask for other forms than that of their node.
 #[derive(Drop)]
@@ -50,10 +58,7 @@ pub(crate) enum Node<'a, 't> {
     Throw(Option<Ty>, ClassId),
     One(HandleOperand<'a, 't>, OfOne<'a>),
     Two(HandleOperand<'a, 't>, OfTwo, HandleOperand<'a, 't>),
-    /// The test, the target and the fallback.
-    Guard(HandleOperand<'a, 't>, HandleOperand<'a, 't>, HandleOperand<'a, 't>),
-    /// What gives the end of a loop, what gives its start, and its body.
-    Counted(HandleOperand<'a, 't>, HandleOperand<'a, 't>, HandleOperand<'a, 't>),
+    Three(HandleOperand<'a, 't>, OfThree, HandleOperand<'a, 't>, HandleOperand<'a, 't>),
     /// The fallback and the cases.
     Switch(HandleOperand<'a, 't>, Seq<HandleOperand<'a, 't>>),
     Spread(HandleOperand<'a, 't>, Option<Ty>, u8),
@@ -80,21 +85,21 @@ fn dropped<'a, 't>(
     Ok(Node::One(target, OfOne::Drop(position, types)))
 }
 
-/// A target, and the part that is joined to it.
+/// A target, and the part that runs before or after it.
 fn pair<'a, 't>(
     registers: &'a Registers<'_, 't>,
     target: &Register,
-    joint: Joint,
+    by: OfTwo,
     part: &Register,
 ) -> Result<Node<'a, 't>, CheckError>
     ensures asked { (leaves : LeafTable)
-        → TellsAlone (joint_asked target.now joint part.now) leaves registers.now result }
+        → TellsAlone (two_asked target.now by part.now) leaves registers.now result }
     ensures makes { MakesUses (target.now ∷ part.now ∷ []) registers.now result }
     ensures kept { KeepsTypes registers.now result }
 {
     let target = registers.handle(target)?;
     let part = registers.handle(part)?;
-    Ok(Node::Two(target, OfTwo::Joint(joint), part))
+    Ok(Node::Two(target, by, part))
 }
 
 /// A target, a class of exceptions, and their handler.
@@ -117,59 +122,23 @@ fn caught<'a, 't>(
     Ok(Node::Two(target, OfTwo::Catch(class), part))
 }
 
-/// A test, a target and a fallback.
-fn guarded<'a, 't>(
+/// Three handles.
+fn triple<'a, 't>(
     registers: &'a Registers<'_, 't>,
-    test: &Register,
-    target: &Register,
-    fallback: &Register,
+    first: &Register,
+    by: OfThree,
+    second: &Register,
+    third: &Register,
 ) -> Result<Node<'a, 't>, CheckError>
     ensures asked { (leaves : LeafTable) → TellsAlone
-        (asked_of leaves (operation.Guard test.now target.now fallback.now))
-        leaves registers.now result }
-    ensures makes { MakesUses (test.now ∷ target.now ∷ fallback.now ∷ []) registers.now result }
+        (three_asked first.now by second.now third.now) leaves registers.now result }
+    ensures makes { MakesUses (first.now ∷ second.now ∷ third.now ∷ []) registers.now result }
     ensures kept { KeepsTypes registers.now result }
 {
-    let test = registers.handle(test)?;
-    let target = registers.handle(target)?;
-    let fallback = registers.handle(fallback)?;
-    Ok(Node::Guard(test, target, fallback))
-}
-
-/// A target and its cleanup.
-fn cleaned_up<'a, 't>(
-    registers: &'a Registers<'_, 't>,
-    target: &Register,
-    cleanup: &Register,
-) -> Result<Node<'a, 't>, CheckError>
-    ensures asked { (leaves : LeafTable) → TellsAlone
-        (asked_of leaves (operation.TryFinally target.now cleanup.now))
-        leaves registers.now result }
-    ensures makes { MakesUses (target.now ∷ cleanup.now ∷ []) registers.now result }
-    ensures kept { KeepsTypes registers.now result }
-{
-    let target = registers.handle(target)?;
-    let cleanup = registers.handle(cleanup)?;
-    Ok(Node::Two(target, OfTwo::TryFinally, cleanup))
-}
-
-/// The parts of a loop: what gives its end, what gives its start, and its body.
-fn looped<'a, 't>(
-    registers: &'a Registers<'_, 't>,
-    iterations: &Register,
-    init: &Register,
-    body: &Register,
-) -> Result<Node<'a, 't>, CheckError>
-    ensures asked { (leaves : LeafTable) → TellsAlone
-        (asked_of leaves (operation.Counted iterations.now init.now body.now))
-        leaves registers.now result }
-    ensures makes { MakesUses (iterations.now ∷ init.now ∷ body.now ∷ []) registers.now result }
-    ensures kept { KeepsTypes registers.now result }
-{
-    let iterations = registers.handle(iterations)?;
-    let init = registers.handle(init)?;
-    let body = registers.handle(body)?;
-    Ok(Node::Counted(iterations, init, body))
+    let first = registers.handle(first)?;
+    let second = registers.handle(second)?;
+    let third = registers.handle(third)?;
+    Ok(Node::Three(first, by, second, third))
 }
 
 /// An operand before others.
@@ -254,10 +223,18 @@ pub(crate) fn operands<'a, 't>(
             let asked = registers.method_type(classes, asked)?;
             Ok(Node::One(target, OfOne::Permute(asked, order.as_slice())))
         }
-        Operation::Filter(target, at, part) => pair(registers, target, Joint::Filter(*at), part),
-        Operation::FilterReturn(target, part) => pair(registers, target, Joint::FilterReturn, part),
-        Operation::Fold(target, at, part) => pair(registers, target, Joint::Fold(*at), part),
-        Operation::Collect(target, at, part) => pair(registers, target, Joint::Collect(*at), part),
+        Operation::Filter(target, at, part) => {
+            pair(registers, target, OfTwo::Joint(Joint::Filter(*at)), part)
+        }
+        Operation::FilterReturn(target, part) => {
+            pair(registers, target, OfTwo::Joint(Joint::FilterReturn), part)
+        }
+        Operation::Fold(target, at, part) => {
+            pair(registers, target, OfTwo::Joint(Joint::Fold(*at)), part)
+        }
+        Operation::Collect(target, at, part) => {
+            pair(registers, target, OfTwo::Joint(Joint::Collect(*at)), part)
+        }
         Operation::Spread(target, array, count) => {
             let target = registers.handle(target)?;
             Ok(Node::Spread(target, registers.ty(classes, array)?, *count))
@@ -276,10 +253,16 @@ pub(crate) fn operands<'a, 't>(
             let asked = registers.method_type(classes, asked)?;
             Ok(Node::Use(target, Rules::Explicit, asked))
         }
-        Operation::Guard(test, target, fallback) => guarded(registers, test, target, fallback),
+        Operation::Guard(test, target, fallback) => {
+            triple(registers, test, OfThree::Guard, target, fallback)
+        }
         Operation::Catch(target, class, part) => caught(leaves, registers, target, class, part),
-        Operation::TryFinally(target, cleanup) => cleaned_up(registers, target, cleanup),
+        Operation::TryFinally(target, cleanup) => {
+            pair(registers, target, OfTwo::TryFinally, cleanup)
+        }
         Operation::Switch(fallback, cases) => switched(registers, fallback, cases),
-        Operation::Counted(iterations, init, body) => looped(registers, iterations, init, body),
+        Operation::Counted(iterations, init, body) => {
+            triple(registers, iterations, OfThree::Counted, init, body)
+        }
     }
 }

@@ -11,21 +11,21 @@ ghost use Rattle.mh_handle.specs.Works.{IsReady, leaves_of};
 ghost use Rattle.mh_jobs.specs.Thrown.{OrThrown};
 ghost use Rattle.mh_attempt.specs.Cases.{StandForEach, StandForSome, own_weights};
 ghost use Rattle.mh_attempt.specs.Nodes.{AreAllOperands, AreOperands, IsAsked, IsOperand, parts_of};
-ghost use Rattle.mh_attempt.specs.Nodes.{one_tree, two_tree};
+ghost use Rattle.mh_attempt.specs.Nodes.{one_tree, three_tree, two_tree};
 ghost use Rattle.mh_attempt.specs.Operations.{MakesAsked, MakesOf};
 ghost use Rattle.mh_attempt.specs.Registers.{StandsFor, StandsForSome};
 
 use crate::handle::HandleOperand;
-use crate::lines::combining::{check_one, check_two, of_one, of_two};
-use crate::lines::nodes::{Node, OfOne, OfTwo};
+use crate::lines::combining::{check_one, check_three, check_two, of_one, of_three, of_two};
+use crate::lines::nodes::{Node, OfOne, OfThree, OfTwo};
 use crate::lines::several::{make_both, make_cases, make_three};
 use crate::lines::uses::{convert_handle, make_spread};
 use mh_base::{Copied, NoMemory, Seq};
-use mh_branch::{Branches, constant, guard_of, identity, throw};
+use mh_branch::{constant, identity, throw};
 use mh_handle::{Handle, HandleError, Work, leaf};
 use mh_leaves::Leaves;
-use mh_more::{Looped, counted_of, switch_of};
-use mh_tree::{CheckError, check_counted, check_guard, check_switch};
+use mh_more::switch_of;
+use mh_tree::{CheckError, check_switch};
 use mh_values::MethodTy;
 use std::alloc::Global;
 use std::sync::Wait;
@@ -52,8 +52,9 @@ pub(crate) fn make_node<'t, R: Wait>(
         Node::Throw(ret, class) => throw(w, rt, ret, class),
         Node::One(target, by) => make_of_one(w, rt, &target, by),
         Node::Two(target, by, part) => make_of_two(w, rt, &target, by, &part),
-        Node::Guard(test, target, fallback) => make_guard(w, rt, &test, &target, &fallback),
-        Node::Counted(iterations, init, body) => make_loop(w, rt, &iterations, &init, &body),
+        Node::Three(first, by, second, third) => {
+            make_of_three(w, rt, by, (&first, &second, &third))
+        }
         Node::Switch(fallback, cases) => make_switch(w, rt, &fallback, cases.as_slice()),
         Node::Spread(target, array, count) => make_spread(w, rt, &target, array, count),
         Node::Use(target, rules, asked) => convert_handle(w, rt, &target, rules, asked.get()),
@@ -100,84 +101,34 @@ fn make_of_two<'t, R: Wait>(
     of_two(w, rt, made, by, ty)
 }
 
-// The handle of a guard: a test, a target and a fallback.
-fn make_guard<'t, R: Wait>(
+// The handle of a node with three operands.
+fn make_of_three<'t, R: Wait>(
     w: &mut Work<'_, 't>,
     rt: &R,
-    test: &HandleOperand<'_, 't>,
-    target: &HandleOperand<'_, 't>,
-    fallback: &HandleOperand<'_, 't>,
+    by: OfThree,
+    parts: (
+        &HandleOperand<'_, 't>,
+        &HandleOperand<'_, 't>,
+        &HandleOperand<'_, 't>,
+    ),
 ) -> Result<Handle<'t>, HandleError>
     requires ready { IsReady w.old 4 }
-    requires test { IsOperand (leaves_of w.old) w.old.seat.now test.now }
-    requires target { IsOperand (leaves_of w.old) w.old.seat.now target.now }
-    requires fallback { IsOperand (leaves_of w.old) w.old.seat.now fallback.now }
-    ensures { (c t e : Tree) → StandsFor (leaves_of w.old) test.now c
-        → StandsFor (leaves_of w.old) target.now t
-        → StandsFor (leaves_of w.old) fallback.now e
-        → MakesOf (test.now ∷ target.now ∷ fallback.now ∷ []) (tree.Guard c t e)
-        w.old w.new result }
+    requires first { IsOperand (leaves_of w.old) w.old.seat.now parts.0.now }
+    requires second { IsOperand (leaves_of w.old) w.old.seat.now parts.1.now }
+    requires third { IsOperand (leaves_of w.old) w.old.seat.now parts.2.now }
+    ensures { (a b d : Tree) → StandsFor (leaves_of w.old) parts.entry.0.now a
+        → StandsFor (leaves_of w.old) parts.entry.1.now b
+        → StandsFor (leaves_of w.old) parts.entry.2.now d
+        → MakesOf (parts.entry.0.now ∷ parts.entry.1.now ∷ parts.entry.2.now ∷ [])
+        (three_tree by a b d) w.old w.new result }
 {
-    let first = test.typed(w.leaves);
-    let own = target.typed(w.leaves);
-    let last = fallback.typed(w.leaves);
-    let ty = check_guard(
-        w.alloc,
-        first.ty,
-        first.weight,
-        own.ty,
-        own.weight,
-        last.ty,
-        last.weight,
-        w.classes(),
-    )?;
-    let made = make_three(w, rt, test, target, fallback)?;
-    let branches = Branches {
-        test: made.0,
-        target: made.1,
-        fallback: made.2,
-    };
-    guard_of(w, rt, branches, ty)
-}
-
-// The handle of a loop: what gives its end, what gives its start, and its body.
-fn make_loop<'t, R: Wait>(
-    w: &mut Work<'_, 't>,
-    rt: &R,
-    iterations: &HandleOperand<'_, 't>,
-    init: &HandleOperand<'_, 't>,
-    body: &HandleOperand<'_, 't>,
-) -> Result<Handle<'t>, HandleError>
-    requires ready { IsReady w.old 4 }
-    requires iterations { IsOperand (leaves_of w.old) w.old.seat.now iterations.now }
-    requires init { IsOperand (leaves_of w.old) w.old.seat.now init.now }
-    requires body { IsOperand (leaves_of w.old) w.old.seat.now body.now }
-    ensures { (c t e : Tree) → StandsFor (leaves_of w.old) iterations.now c
-        → StandsFor (leaves_of w.old) init.now t
-        → StandsFor (leaves_of w.old) body.now e
-        → MakesOf (iterations.now ∷ init.now ∷ body.now ∷ []) (tree.Counted c t e)
-        w.old w.new result }
-{
-    let first = iterations.typed(w.leaves);
-    let own = init.typed(w.leaves);
-    let last = body.typed(w.leaves);
-    let ty = check_counted(
-        w.alloc,
-        first.ty,
-        first.weight,
-        own.ty,
-        own.weight,
-        last.ty,
-        last.weight,
-        w.classes(),
-    )?;
-    let made = make_three(w, rt, iterations, init, body)?;
-    let looped = Looped {
-        iterations: made.0,
-        init: made.1,
-        body: made.2,
-    };
-    counted_of(w, rt, looped, ty)
+    let (first, second, third) = parts;
+    let a = first.typed(w.leaves);
+    let b = second.typed(w.leaves);
+    let c = third.typed(w.leaves);
+    let ty = check_three(w.alloc, (a, b, c), by, w.classes())?;
+    let made = make_three(w, rt, first, second, third)?;
+    of_three(w, rt, made, by, ty)
 }
 
 // The types of operands.

@@ -112,16 +112,16 @@ pub returns-in-Collect-clause-asked : goal.returns-in-Collect-clause-asked
 returns-in-Collect-clause-asked c frame hold = rw c.in-Collect.is (c.pair-in-Collect.ensures.asked c.args.leaves.now frame hold)
 
 pub returns-in-Guard-clause-asked : goal.returns-in-Guard-clause-asked
-returns-in-Guard-clause-asked c frame hold = rw c.in-Guard.is (c.guarded.ensures.asked c.args.leaves.now frame hold)
+returns-in-Guard-clause-asked c frame hold = rw c.in-Guard.is (c.triple.ensures.asked c.args.leaves.now frame hold)
 
 pub returns-in-Catch-clause-asked : goal.returns-in-Catch-clause-asked
 returns-in-Catch-clause-asked c frame hold = rw c.in-Catch.is (c.caught.ensures.asked frame hold)
 
 pub returns-in-TryFinally-clause-asked : goal.returns-in-TryFinally-clause-asked
-returns-in-TryFinally-clause-asked c frame hold = rw c.in-TryFinally.is (c.cleaned_up.ensures.asked c.args.leaves.now frame hold)
+returns-in-TryFinally-clause-asked c frame hold = rw c.in-TryFinally.is (c.pair-in-TryFinally.ensures.asked c.args.leaves.now frame hold)
 
 pub returns-in-Switch-clause-asked : goal.returns-in-Switch-clause-asked
 returns-in-Switch-clause-asked c frame hold = rw c.in-Switch.is (c.switched.ensures.asked c.args.leaves.now frame hold)
 
 pub returns-in-Counted-clause-asked : goal.returns-in-Counted-clause-asked
-returns-in-Counted-clause-asked c frame hold = rw c.in-Counted.is (c.looped.ensures.asked c.args.leaves.now frame hold)
+returns-in-Counted-clause-asked c frame hold = rw c.in-Counted.is (c.triple-in-Counted.ensures.asked c.args.leaves.now frame hold)

@@ -62,21 +62,13 @@ returns-in-Two g c m itself asked =
     made-for w new r c.args.node _ m itself c.in-Two.is (λ is. for-asked _ m _ itself _ w new r is.4.asked is.4.forms
     (c.make_of_two.ensures is.0 is.1 is.2 is.3)) asked
 
-pub returns-in-Guard : goal.returns-in-Guard
-returns-in-Guard g c m itself asked =
+pub returns-in-Three : goal.returns-in-Three
+returns-in-Three g c m itself asked =
     let w = c.args.w.now in
-    let new = c.make_guard.new.w in
-    let r = c.make_guard.result in
-    made-for w new r c.args.node _ m itself c.in-Guard.is (λ is. for-asked _ m _ itself _ w new r is.6.asked is.6.forms
-    (c.make_guard.ensures is.0 is.1 is.2 is.3 is.4 is.5)) asked
-
-pub returns-in-Counted : goal.returns-in-Counted
-returns-in-Counted g c m itself asked =
-    let w = c.args.w.now in
-    let new = c.make_loop.new.w in
-    let r = c.make_loop.result in
-    made-for w new r c.args.node _ m itself c.in-Counted.is (λ is. for-asked _ m _ itself _ w new r is.6.asked is.6.forms
-    (c.make_loop.ensures is.0 is.1 is.2 is.3 is.4 is.5)) asked
+    let new = c.make_of_three.new.w in
+    let r = c.make_of_three.result in
+    made-for w new r c.args.node _ m itself c.in-Three.is (λ is. for-asked _ m _ itself _ w new r is.6.asked is.6.forms
+    (c.make_of_three.ensures is.0 is.1 is.2 is.3 is.4 is.5)) asked
 
 pub returns-in-Switch : goal.returns-in-Switch
 returns-in-Switch g c m itself asked =
@@ -115,23 +107,14 @@ make_of_two-requires-clause-target g c = (subst (AreOperands c.args.w.now.leaves
 pub make_of_two-requires-clause-part : goal.make_of_two-requires-clause-part
 make_of_two-requires-clause-part g c = (subst (AreOperands c.args.w.now.leaves.now c.args.w.now.seat.now) c.in-Two.is c.requires.operands).1
 
-pub make_guard-requires-clause-test : goal.make_guard-requires-clause-test
-make_guard-requires-clause-test g c = (subst (AreOperands c.args.w.now.leaves.now c.args.w.now.seat.now) c.in-Guard.is c.requires.operands).0
+pub make_of_three-requires-clause-first : goal.make_of_three-requires-clause-first
+make_of_three-requires-clause-first g c = (subst (AreOperands c.args.w.now.leaves.now c.args.w.now.seat.now) c.in-Three.is c.requires.operands).0
 
-pub make_guard-requires-clause-target : goal.make_guard-requires-clause-target
-make_guard-requires-clause-target g c = (subst (AreOperands c.args.w.now.leaves.now c.args.w.now.seat.now) c.in-Guard.is c.requires.operands).1
+pub make_of_three-requires-clause-second : goal.make_of_three-requires-clause-second
+make_of_three-requires-clause-second g c = (subst (AreOperands c.args.w.now.leaves.now c.args.w.now.seat.now) c.in-Three.is c.requires.operands).1
 
-pub make_guard-requires-clause-fallback : goal.make_guard-requires-clause-fallback
-make_guard-requires-clause-fallback g c = (subst (AreOperands c.args.w.now.leaves.now c.args.w.now.seat.now) c.in-Guard.is c.requires.operands).2
-
-pub make_loop-requires-clause-iterations : goal.make_loop-requires-clause-iterations
-make_loop-requires-clause-iterations g c = (subst (AreOperands c.args.w.now.leaves.now c.args.w.now.seat.now) c.in-Counted.is c.requires.operands).0
-
-pub make_loop-requires-clause-init : goal.make_loop-requires-clause-init
-make_loop-requires-clause-init g c = (subst (AreOperands c.args.w.now.leaves.now c.args.w.now.seat.now) c.in-Counted.is c.requires.operands).1
-
-pub make_loop-requires-clause-body : goal.make_loop-requires-clause-body
-make_loop-requires-clause-body g c = (subst (AreOperands c.args.w.now.leaves.now c.args.w.now.seat.now) c.in-Counted.is c.requires.operands).2
+pub make_of_three-requires-clause-third : goal.make_of_three-requires-clause-third
+make_of_three-requires-clause-third g c = (subst (AreOperands c.args.w.now.leaves.now c.args.w.now.seat.now) c.in-Three.is c.requires.operands).2
 
 pub make_spread-requires-clause-target : goal.make_spread-requires-clause-target
 make_spread-requires-clause-target g c = subst (AreOperands c.args.w.now.leaves.now c.args.w.now.seat.now) c.in-Spread.is c.requires.operands

@@ -39,7 +39,7 @@ returns-in-Ok-clause-ok c =
     rw (← c.self.view_is) (rw (← c.handle.view_is) (record {
       fields = (
         field.Part c.in-Ok.part,
-        c.push_reserved.ensures.items ∙ ap (λ l. l ++ field.Part c.in-Ok.part ∷ []) c.room_for.ensures.fields,
+        c.push_reserved.ensures ∙ ap (λ l. l ++ field.Part c.in-Ok.part ∷ []) c.room_for.ensures.fields,
         (
           c.in-Ok.part,
           refl,
