@@ -67,6 +67,6 @@ deals b lt =
     ap (drop 1) e ∙ (λ i. up_from (let q : suc b ≡ b + 1 = omega arith in q i) (let q : 63 - b ≡ 64 - (b + 1) = omega arith in q i)) in
     let head : slice_index (up_from b (64 - b)) 0 ≡ b = ap (λ z. slice_index z 0) e in (
       omega arith,
-      ap (λ (z : List ℕ). record first { keeps = z }) rest,
+      ap (λ (z : List ℕ). record { holds = []; room = limit; asked = []; full = []; keeps = z; entries = []; zeros = []; busy = []; wanted = [] }) rest,
       ap (λ z. at_rest z []) head,
     )
