@@ -1,7 +1,7 @@
 ghost use Rattle.std.specs.Prelude.{◌≡◌, ℕ, ◌<◌, All, length, slice_index_or};
 
-use crate::beside::call_beside;
 use std::sync::Wait;
+use std::thread;
 use std::thread::Threads;
 
 /// What is done with each lane. The threads of all lanes share the task.
@@ -20,18 +20,19 @@ pub trait Task {
         ensures { done self.entry.now lane.old lane.new };
 }
 
-/// Runs the task on each lane, each in a thread, or a single lane in the caller's. It returns when
-/// all are done, and takes no memory of its own. If a thread cannot be started, the caller runs its
-/// lane.
+/// Runs the task on each lane, each in a thread. It returns when all are done, and takes no memory
+/// of its own. If a thread cannot be started, the caller runs its lane.
 pub fn run_each<T: Task + Sync, R: Threads + Wait + Sync>(rt: &R, task: &T, lanes: &mut [T::Lane])
     requires some { 0 < length lanes.old }
     requires ready { All (T.ready task.now) lanes.old }
     ensures { (i : ℕ) (d : _) → i < length lanes.old
         → T.done task.now (slice_index_or lanes.old i d) (slice_index_or lanes.new i d) }
 {
-    if let [lane] = lanes {
-        task.run(rt, lane);
-        return;
-    }
-    call_beside(rt, &|_, lane: &mut T::Lane| { task.run(rt, lane) }, lanes);
+    let count = lanes.len();
+    thread::for_each_mut(
+        rt,
+        lanes,
+        count,
+        &|_, lane: &mut T::Lane| { task.run(rt, lane) },
+    );
 }

@@ -1,10 +1,10 @@
 ghost use Rattle.std.specs.Prelude.{◌≡◌, ℕ, ◌<◌, ◌++◌, ◌∷◌, [], All, List, OnOk, IfOk, length, slice_index_or};
 ghost use Rattle.mh_threads.specs.Lanes.{HaveRun};
 
-use crate::beside::call_beside;
 use mh_base::NoMemory;
 use std::alloc::Global;
 use std::sync::Wait;
+use std::thread;
 use std::thread::Threads;
 
 /// Work that threads do concurrently. A lane is forked off for each of them, and a thread runs it.
@@ -83,16 +83,20 @@ fn fork_all<T: ForkJoin>(
     Ok(lanes)
 }
 
-// Runs each lane in a thread, or a single lane in the caller's.
+// Runs each lane in a thread.
 fn run_all<T: ForkJoin + Sync, R: Threads + Wait + Sync>(rt: &R, task: &T, lanes: &mut [T::Lane])
     requires ready { All (T.ready task.now) lanes.old }
     ensures { HaveRun (T.done task.now) lanes.old lanes.new }
 {
-    if let [lane] = lanes {
-        task.run(rt, lane);
-        return;
+    let count = lanes.len();
+    if count > 0 {
+        thread::for_each_mut(
+            rt,
+            lanes,
+            count,
+            &|_, lane: &mut T::Lane| { task.run(rt, lane) },
+        );
     }
-    call_beside(rt, &|_, lane: &mut T::Lane| { task.run(rt, lane) }, lanes);
 }
 
 // Joins all lanes.
