@@ -99,14 +99,8 @@ fn work_beside<N: Bound + Send + Sync, L: Linking + Sync, R: Threads + Wait + Sy
         let (owner, mine) = popped::<N, L, R>(rt, linking, owner, mine);
         return (owner, mine, thieves);
     }
-    let ((owner, mine), thieves) = thread::join(
+    let (thieves, (owner, mine)) = thread::join(
         rt,
-        move ||
-            requires { CanPop (L.step linking.now) (L.has linking.now) (L.room linking.now)
-                N.bound owner mine × (N.bound ≤ L.items linking.now) }
-            ensures { HasPopped (L.step linking.entry.now) (L.has linking.entry.now)
-                (L.room linking.entry.now) N.bound owner mine result.0 result.1 }
-        { popped::<N, L, R>(rt, linking, owner, mine) },
         move ||
             requires { (0 < length thieves.items)
                 × All (CanSteal (λ l. IsPassOf (stealer_deque thief.now) l.place)
@@ -118,6 +112,12 @@ fn work_beside<N: Bound + Send + Sync, L: Linking + Sync, R: Threads + Wait + Sy
                 (L.step linking.entry.now) (L.has linking.entry.now))
                 thieves.items result.items }
         { stolen::<N, L, R>(rt, linking, thief, thieves) },
+        move ||
+            requires { CanPop (L.step linking.now) (L.has linking.now) (L.room linking.now)
+                N.bound owner mine × (N.bound ≤ L.items linking.now) }
+            ensures { HasPopped (L.step linking.entry.now) (L.has linking.entry.now)
+                (L.room linking.entry.now) N.bound owner mine result.0 result.1 }
+        { popped::<N, L, R>(rt, linking, owner, mine) },
     );
     (owner, mine, thieves)
 }
@@ -211,10 +211,10 @@ fn prelink_named<N: Bound + Send + Sync, L: Linking + Sync, R: Threads + Wait + 
     Ok(Workers::from_vec(done))
 }
 
-/// Links the items below the count by as many workers as there are passes, each in a thread of its
-/// own. A worker that is alone is run by the caller. Each takes numbers from one deque, until it
-/// finds that empty or its linking stops; `prelink` waits for all of them. All memory is taken
-/// first: if there is not enough, nothing was linked, and the passes are dropped.
+/// Links the items below the count by as many workers as there are passes, the first of them in the
+/// caller's thread. Each takes numbers from one deque, until it finds that empty or its linking
+/// stops; `prelink` waits for all of them. All memory is taken first: if there is not enough,
+/// nothing was linked, and the passes are dropped.
 pub fn prelink<L: Linking + Sync, R: Threads + Wait + Sync>(
     rt: &R,
     alloc: Global,
