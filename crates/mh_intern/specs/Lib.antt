@@ -10,6 +10,4 @@ pub mod Steps
 pub mod Interning
 pub mod Views
 pub mod Seats
-pub mod Notes
-pub mod Callers
 pub mod Trades
