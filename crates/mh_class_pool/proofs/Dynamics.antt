@@ -1,6 +1,6 @@
 -- The indexes of the Dynamic entries, as the pool grows.
-use Rattle.std.proofs.Common.{◌≡◌, ℕ, zero, suc, ◌+◌, ◌≤◌, Bool, true, false, cond, ltb, List, [], ◌∷◌, ◌++◌, length, map, Some, None, refl, sym, ap, ◌∙◌, append_assoc, arith}
-use Rattle.std.proofs.lemmas.List.{append-nil, length-append, length-map, map_push}
+use Rattle.std.proofs.Common.{◌≡◌, ℕ, zero, suc, ◌+◌, ◌≤◌, Bool, true, false, cond, ltb, List, [], ◌∷◌, ◌++◌, length, Some, None, refl, sym, ap, ◌∙◌, append_assoc, arith}
+use Rattle.std.proofs.lemmas.List.{append-nil, length-append}
 use Rattle.std.proofs.lemmas.List.Elements.{All-nil, All-cons, All-append, All-weaker}
 use Rattle.std.proofs.lemmas.List.Sums.{sum_by-cons}
 use Rattle.std.proofs.lemmas.List.Sorted.{IsPartitionedBy-ltb}
@@ -8,7 +8,7 @@ use Rattle.std.specs.Prelude.{All}
 use Rattle.std.specs.List.{count_by}
 use Rattle.std.specs.List.Sorted.{IsNonDecreasing, IsPartitionPoint, IsPartitionedBy}
 use Rattle.mh_class_pool.specs.declared.entry.Entry.{Entry}
-use Rattle.mh_class_pool.specs.Entries.{Slot, is_dynamic, if_dynamic, dynamic_at, dynamics_from, dynamics, slot_at}
+use Rattle.mh_class_pool.specs.Entries.{Slot, is_dynamic, if_dynamic, dynamic_at, dynamics_from, dynamics}
 
 pub no_dynamics : dynamics (None ∷ []) ≡ []
 unfolding dynamics_from
@@ -40,23 +40,17 @@ dynamics-end pool s =
     dynamics-push 0 pool s ∙ ap (λ (n : ℕ). dynamics pool ++ dynamic_at n s) there
 
 -- with an entry at the next index
-pub dynamics-narrow : (bytes places kept : List ℕ) (at : ℕ) (e : Entry) → kept ≡ dynamics (map (slot_at bytes) places) →
-    map (slot_at bytes) (places ++ at ∷ []) ≡ map (slot_at bytes) places ++ Some (at, e) ∷ [] →
-    kept ++ if_dynamic (length places) e ≡ dynamics (map (slot_at bytes) (places ++ at ∷ []))
-dynamics-narrow bytes places kept at e same pushed =
-    ap (λ (xs : List ℕ). xs ++ if_dynamic (length places) e) same
-    ∙ ap (λ (n : ℕ). dynamics (map (slot_at bytes) places) ++ if_dynamic n e) (sym (length-map places (slot_at bytes)))
-    ∙ sym (ap (λ (xs : List Slot). dynamics xs) pushed ∙ dynamics-end (map (slot_at bytes) places) (Some (at, e)))
+pub dynamics-narrow : (slots : List Slot) (kept : List ℕ) (at : ℕ) (e : Entry) → kept ≡ dynamics slots →
+    kept ++ if_dynamic (length slots) e ≡ dynamics (slots ++ Some (at, e) ∷ [])
+dynamics-narrow slots kept at e same =
+    ap (λ (xs : List ℕ). xs ++ if_dynamic (length slots) e) same ∙ sym (dynamics-end slots (Some (at, e)))
 
 -- and with an index after it that has none
-pub dynamics-wide : (bytes places kept : List ℕ) (at : ℕ) (e : Entry) → kept ≡ dynamics (map (slot_at bytes) places) →
-    map (slot_at bytes) (places ++ at ∷ []) ≡ map (slot_at bytes) places ++ Some (at, e) ∷ [] →
-    kept ++ if_dynamic (length places) e ≡ dynamics (map (slot_at bytes) ((places ++ at ∷ []) ++ 0 ∷ []))
-dynamics-wide bytes places kept at e same pushed =
-    let all = map (slot_at bytes) (places ++ at ∷ []) in
-    dynamics-narrow bytes places kept at e same pushed
-    ∙ sym (ap (λ (xs : List Slot). dynamics xs) (map_push (slot_at bytes) (places ++ at ∷ []) 0)
-    ∙ (dynamics-end all None ∙ append-nil (dynamics all)))
+pub dynamics-wide : (slots : List Slot) (kept : List ℕ) (at : ℕ) (e : Entry) → kept ≡ dynamics slots →
+    kept ++ if_dynamic (length slots) e ≡ dynamics ((slots ++ Some (at, e) ∷ []) ++ None ∷ [])
+dynamics-wide slots kept at e same =
+    let all = slots ++ Some (at, e) ∷ [] in
+    dynamics-narrow slots kept at e same ∙ sym (dynamics-end all None ∙ append-nil (dynamics all))
 
 -- they rise
 at_least : (i : ℕ) (s : Slot) → All (λ j. i ≤ j) (dynamic_at i s)

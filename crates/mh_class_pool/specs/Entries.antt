@@ -1,8 +1,8 @@
 -- Entries of the constant pool (JVMS 4.4).
-use Rattle.std.specs.Prelude.{◌≡◌, ℕ, ◌+◌, ◌==◌, nat_le, List, [], ◌∷◌, ◌++◌, length, map, Bool, true, false, ◌&&◌, ◌||◌, not, Option, Some, None, Ok, Err, ◌<◌, ◌≤◌, ◌^◌, nat_lt, is_ok, slice_index, slice_index_or, if◌then◌else◌}
+use Rattle.std.specs.Prelude.{◌≡◌, ℕ, ◌+◌, ◌==◌, nat_le, List, [], ◌∷◌, ◌++◌, length, Bool, true, false, ◌&&◌, ◌||◌, not, Option, Some, None, ◌<◌, ◌≤◌, ◌^◌, nat_lt, slice_index_or, if◌then◌else◌}
 use Rattle.std.specs.List.{count_by}
 use Rattle.mh_class_bytes.specs.Mutf8.{sound_len}
-use Rattle.mh_class_bytes.specs.Format.{Format, number, run, here, check, refuse, choose, done, ◌>>=◌, repeated, Reading, reads}
+use Rattle.mh_class_bytes.specs.Format.{Format, number, run, here, check, refuse, choose, done, ◌>>=◌, repeated}
 use Rattle.mh_class_pool.specs.declared.entry.Entry.{Entry}
 use Rattle.mh_class_pool.specs.declared.entry.Entry.TheVariants.{Utf8, Integer, Float, Long, Double, Class, Str, Fieldref, Methodref, InterfaceMethodref, NameAndType, MethodHandle, MethodType, Dynamic, InvokeDynamic, Module, Package}
 use Rattle.mh_class_pool.specs.declared.entry.Kind.{Kind}
@@ -193,23 +193,8 @@ text_of _ = []
 abbrev pub text : List Slot → ℕ → List ℕ
 text pool i = text_of (slot pool i)
 
--- what was read at the place of a tag
-abbrev pub slot_of : ℕ → Reading ClassKind Entry → Slot
-slot_of at (Ok e) = Some (at, e.0)
-slot_of at (Err f) = None
-
--- what is at the place of a tag; 0 is no such place
-abbrev pub slot_at : List ℕ → ℕ → Slot
-slot_at bytes at = if at == 0 then None else slot_of at (reads (entry false false) (record { bytes = bytes; at = at }))
-
--- there is an entry at each place that is kept
-pub record Stand (bytes places : List ℕ) : Type 0 where
-  pub each : (k : ℕ) → k < length places → 0 < slice_index places k →
-      is_ok (reads (entry false false) (record { bytes = bytes; at = slice_index places k })) ≡ true
-
--- what is kept of a pool: the places where its entries stand, and the indexes of the Dynamic ones
-pub record AreKept (bytes places kept : List ℕ) : Type 0 where
-  pub stand : Stand bytes places
-  pub dynamics : kept ≡ dynamics (map (slot_at bytes) places)
-  pub few : length kept < length places
-  pub small : length places ≤ 2 ^ 16
+-- what is kept beside the slots of a pool: the indexes of the Dynamic entries
+pub record AreKept (slots : List Slot) (kept : List ℕ) : Type 0 where
+  pub dynamics : kept ≡ dynamics slots
+  pub few : length kept < length slots
+  pub small : length slots ≤ 2 ^ 16

@@ -49,6 +49,31 @@ pub enum Kind {
 }
 
 impl<'b> Entry<'b> {
+    /// The same entry; its text is borrowed once more.
+    pub fn copy(&self) -> Entry<'b>
+        ensures { result ≡ self.now }
+    {
+        match self {
+            Entry::Utf8(text) => Entry::Utf8(text.copy()),
+            Entry::Integer(number) => Entry::Integer(*number),
+            Entry::Float => Entry::Float,
+            Entry::Long(high, low) => Entry::Long(*high, *low),
+            Entry::Double => Entry::Double,
+            Entry::Class(name) => Entry::Class(*name),
+            Entry::Str(text) => Entry::Str(*text),
+            Entry::Fieldref(class, name) => Entry::Fieldref(*class, *name),
+            Entry::Methodref(class, name) => Entry::Methodref(*class, *name),
+            Entry::InterfaceMethodref(class, name) => Entry::InterfaceMethodref(*class, *name),
+            Entry::NameAndType(name, descriptor) => Entry::NameAndType(*name, *descriptor),
+            Entry::MethodHandle(kind, reference) => Entry::MethodHandle(*kind, *reference),
+            Entry::MethodType(descriptor) => Entry::MethodType(*descriptor),
+            Entry::Dynamic(bootstrap, name) => Entry::Dynamic(*bootstrap, *name),
+            Entry::InvokeDynamic(bootstrap, name) => Entry::InvokeDynamic(*bootstrap, *name),
+            Entry::Module(name) => Entry::Module(*name),
+            Entry::Package(name) => Entry::Package(*name),
+        }
+    }
+
     /// Whether the entry is of the kind.
     pub fn is_kind(&self, kind: Kind) -> bool
         ensures { result ≡ is_kind kind self.now }
@@ -104,9 +129,9 @@ impl<'b> Entry<'b> {
     }
 }
 
-/// The bytes of a Utf8 entry after its tag.
+// The bytes of a Utf8 entry after its tag.
 #[tactic(auto, unfolding(crate::specs::Entries::utf8_bytes))]
-pub fn read_utf8_bytes<'b>(cursor: &mut Cursor<'b>) -> Result<&'b [u8], ClassFault>
+fn read_utf8_bytes<'b>(cursor: &mut Cursor<'b>) -> Result<&'b [u8], ClassFault>
     ensures reads { Reads (λ x. x.now) result cursor.old cursor.new utf8_bytes }
 {
     let len = u2(cursor, ClassKind::Truncated)?;
@@ -190,9 +215,9 @@ fn read_handle<'b>(cursor: &mut Cursor<'b>) -> Result<Entry<'b>, ClassFault>
     Ok(Entry::MethodHandle(kind, reference))
 }
 
-/// The contents of an entry, except a Utf8 one, after its tag, which is at `at`.
+// The contents of an entry, except a Utf8 one, after its tag, which is at `at`.
 #[tactic(auto, unfolding(crate::specs::Entries::contents))]
-pub fn read_contents<'b>(
+fn read_contents<'b>(
     tag: u8,
     at: usize,
     cursor: &mut Cursor<'b>,

@@ -93,15 +93,16 @@ slots_counted n (x ∷ xs) small =
         (λ ne. let h : bit (x.slot == k) ≡ 0 = ap bit (ne_eqb x.slot k ne) in pos_of (on_slot k (x ∷ xs)) (on_slot k xs) (omega (arith, more k))) in
         omega (arith, same_sum (λ k. bit (nat_lt 0 (on_slot k (x ∷ xs)))) (λ k. bit (nat_lt 0 (on_slot k xs))) each (up_from 0 n))
 
-pub closes : (s : State (Unit {0}) Holding) → Held s → (id : ℕ) (v : Holding) → get_elem? s.views id ≡ some v → weight v ≡ limit →
-    ((k : ℕ) → 2048 ≤ k → on_slot k v.holds ≡ 0)
-    → count_by (λ n. nat_lt 0 n) s.words ≡ distinct_slots v.holds
-closes s h id v at whole small =
+pub closes : (s : State (Unit {0}) Holding) → Held s → (id : ℕ) (v : Holding) (kept : List Entry) → get_elem? s.views id ≡ some v → weight v ≡ limit →
+    ((k : ℕ) → on_slot k kept ≡ on_slot k v.holds) → ((k : ℕ) → 2048 ≤ k → on_slot k kept ≡ 0)
+    → count_by (λ n. nat_lt 0 n) s.words ≡ distinct_slots kept
+closes s h id v kept at whole same small =
     let mine : (k : ℕ) → on_slot k v.holds ≡ sum_by (λ u. on_slot k u.holds) s.views =
     λ k. alone weight (λ (u : Holding). on_slot k u.holds) s.views
     (λ i u there none. let m = count_by-le-length (λ (e : Entry). e.slot == k) u.holds in omega arith) id v at (omega (arith, h.whole)) in
-    list_count s.words (λ k. on_slot k v.holds) 0 (λ i lt. h.words i (omega (arith, h.wide)) ∙ (sym (mine i) ∙ ap (λ k. on_slot k v.holds) (omega arith)))
-    ∙ slots_counted (length s.words) v.holds (λ k le. small k (omega (arith, h.wide)))
+    list_count s.words (λ k. on_slot k kept) 0
+    (λ i lt. h.words i (omega (arith, h.wide)) ∙ (sym (mine i) ∙ (sym (same i) ∙ ap (λ k. on_slot k kept) (omega arith))))
+    ∙ slots_counted (length s.words) kept (λ k le. small k (omega (arith, h.wide)))
 
 -- where the holds agree, there are as many slots as types
 same_count : (p q : Entry → Bool) (xs : List Entry) → ((y : Entry) → In xs y → p y ≡ q y) → count_by p xs ≡ count_by q xs

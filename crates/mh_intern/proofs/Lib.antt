@@ -15,6 +15,10 @@ pub mod Filling
 pub mod Placing
 pub mod Listing
 pub mod Seating
+pub mod Finding
+pub mod Noting
+pub mod Recording
+pub mod Settling
 pub mod Closing
 pub mod Dealing
 pub mod HoldCounts

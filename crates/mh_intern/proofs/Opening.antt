@@ -9,7 +9,7 @@ use lib.ListN.{get_elem?}
 use Rattle.atomic_table.specs.Table.{opening}
 use Rattle.mh_intern.specs.declared.holding.Holding.{Holding}
 use Rattle.mh_intern.specs.Held.{IsFull, Fits, Held}
-use Rattle.mh_seats.specs.Room.{times, limit}
+use Rattle.mh_seats.specs.Room.{times}
 use Rattle.mh_intern.specs.Kinds.{up_from, first, without_first, first_keeper, dealt, at_rest}
 use Rattle.mh_intern.proofs.Measures.{count_cons}
 use Rattle.mh_intern.proofs.Entries.{bit}
@@ -67,6 +67,6 @@ deals b lt =
     ap (drop 1) e ∙ (λ i. up_from (let q : suc b ≡ b + 1 = omega arith in q i) (let q : 63 - b ≡ 64 - (b + 1) = omega arith in q i)) in
     let head : slice_index (up_from b (64 - b)) 0 ≡ b = ap (λ z. slice_index z 0) e in (
       omega arith,
-      ap (λ (z : List ℕ). record { holds = []; room = limit; asked = []; full = []; keeps = z; entries = []; zeros = []; busy = []; wanted = [] }) rest,
+      ap (λ (z : List ℕ). record first { keeps = z }) rest,
       ap (λ z. at_rest z []) head,
     )

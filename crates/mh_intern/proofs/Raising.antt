@@ -36,7 +36,7 @@ raises_listed slots id k e me is small room kept mine s h _ at _ =
       keeps = λ b. refl;
       here = omega (arith, count_cons (λ (x : Entry). x.slot == k) e v.holds, slot_hit e k is);
       there = λ j apart. omega (arith, count_cons (λ (x : Entry). x.slot == j) e v.holds, slot_missed e k j is apart);
-      asked = λ u. refl;
+      asked = λ u. omega arith;
       used = λ u. omega arith;
       fits = record { slots = f.slots; types = f.types; zeros = λ j none. refl; full = f.full; idle = λ none u. f.idle (omega arith) u };
     } in
@@ -74,7 +74,7 @@ raises_new slots id k e entries me is small room kept here wanted zero_read abse
       keeps = λ b. refl;
       here = omega (arith, count_cons (λ (x : Entry). x.slot == k) e v.holds, slot_hit e k is);
       there = λ j apart. omega (arith, count_cons (λ (x : Entry). x.slot == j) e v.holds, slot_missed e k j is apart);
-      asked = λ u. refl;
+      asked = λ u. omega arith;
       used = λ u.
           let q : times_type u v.wanted ≡ times_type u (e.ty ∷ []) = ap (times_type u) wanted in
           omega (arith, types u, count_cons (λ (x : MethodTy). is_same_method_type x u) e.ty []);

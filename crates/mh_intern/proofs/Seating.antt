@@ -60,6 +60,21 @@ seated_more e holds room asked full s mine small some_room = record {
   known = λ whole t used. s.known (omega arith) t used;
 }
 
+-- the same, after the type was asked for
+pub seated_again : (e : Entry) (holds : List Entry) (room : ℕ) (asked : List MethodTy) (full : List FullBucket) → IsSeated holds room asked full → In holds e →
+    e.slot < 2048 → 1 ≤ room
+    → IsSeated (e ∷ holds) (room - 1) (e.ty ∷ asked) full
+seated_again e holds room asked full s mine small some_room =
+    let m = seated_more e holds room asked full s mine small some_room in
+    record {
+      agrees = m.agrees;
+      small = m.small;
+      some_left = m.some_left;
+      most = m.most;
+      filled = m.filled;
+      known = λ whole t used. omega (arith, m.known whole t used, count_cons (λ (u : MethodTy). is_same_method_type u t) e.ty asked);
+    }
+
 pub seated_less : (e : Entry) (holds : List Entry) (room : ℕ) (asked : List MethodTy) (full : List FullBucket) → IsSeated holds room asked full → In holds e
     → IsSeated (removed e holds) (room + 1) asked full
 seated_less e holds room asked full s mine =

@@ -17,6 +17,9 @@ use Rattle.mh_intern.proofs.Parting.{parts_allowed}
 fits_caller : (holds : List Entry) (room : ℕ) → Fits (caller holds room [] [])
 fits_caller holds room = record { slots = λ k none. refl; types = λ t none. refl; zeros = λ k none. refl; full = All-nil IsFull; idle = λ none t. refl }
 
+fits_reply : (v : Holding) → Fits (reply v)
+fits_reply v = record { slots = λ k none. refl; types = λ t none. refl; zeros = λ k none. refl; full = All-nil IsFull; idle = λ none t. refl }
+
 pub cuts_allowed : (id room : ℕ) (v : Holding) → room < v.room → Splits Held id v (less_room room v) (caller [] room [] [])
 cuts_allowed id room v lt = parts_allowed id v (less_room room v) (caller [] room [] []) (λ f. record {
   weight = omega arith;
@@ -72,7 +75,7 @@ module _ (id : ℕ) (v : Holding) (quiet : v.asked ≡ []) where
     asked = λ t. omega arith;
     used = λ t none unused. omega arith;
     left = fits_answered f;
-    right = fits_caller v.holds v.room;
+    right = fits_reply v;
   })
 
   pub refusals_allowed : IsFull (full_bucket v) → Splits Held id v (after_reply v) (refusal v)

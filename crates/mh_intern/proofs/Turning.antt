@@ -33,7 +33,7 @@ pub record Turns (k n m : ℕ) (v w : Holding) : Type 0 where
   pub keeps : (b : ℕ) → times b w.keeps ≡ times b v.keeps
   pub here : on_slot k w.holds + n ≡ on_slot k v.holds + m
   pub there : (j : ℕ) → j ≢ k → on_slot j w.holds ≡ on_slot j v.holds
-  pub asked : (t : MethodTy) → asks t w ≡ asks t v
+  pub asked : (t : MethodTy) → asks t v ≤ asks t w
   pub used : (t : MethodTy) → uses t w ≤ uses t v
   pub fits : Fits w
 
@@ -71,7 +71,7 @@ turned s h id k m v w at small t g =
       asked = λ u e.
           let c = total_set (uses u) s.views id v w at in
           let l = t.used u in
-          let o : sum_by (uses u) s.views ≡ 0 = h.asked u (sym (same (asks u) (t.asked u)) ∙ e) in
+          let o : sum_by (uses u) s.views ≡ 0 = h.asked u (omega (arith, total_set (asks u) s.views id v w at, t.asked u)) in
           let p = at_most (uses u) s.views id v at in
           omega arith;
       each = each_set Fits s.views id w h.each t.fits;

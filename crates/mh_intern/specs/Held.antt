@@ -58,7 +58,7 @@ pub record Fits (v : Holding) : Type 0 where
 pub record Held (s : State (Unit {0}) Holding) : Type 0 where
   -- a word for each slot
   pub wide : length s.words ≡ slots
-  -- a word is the number of holds of its slot, over all views
+  -- a word is the number of holds of its slot that are counted, over all views
   pub words : (k : ℕ) → k < slots → slice_index s.words k ≡ sum_by (λ v. on_slot k v.holds) s.views
   -- the room and the holds of all views
   pub whole : sum_by weight s.views ≡ limit

@@ -11,7 +11,7 @@ use Rattle.mh_intern.specs.Held.{on_type, IsFull}
 
 -- one hold more and one room less, and the type was asked for
 abbrev pub granted : Entry → Holding → Holding
-granted e v = record v { holds = e ∷ v.holds; room = v.room - 1; asked = e.ty ∷ v.asked }
+granted e v = record v { holds = e ∷ v.holds; kept = e ∷ v.kept; room = v.room - 1; asked = e.ty ∷ v.asked }
 
 -- the type was asked for, and a full bucket was found
 abbrev pub refused : FullBucket → MethodTy → Holding → Holding

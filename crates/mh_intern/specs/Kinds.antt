@@ -1,5 +1,5 @@
 -- How each kind of step of the table of holders changes a view.
-use Rattle.std.specs.Prelude.{ℕ, zero, suc, ◌+◌, ◌-◌, ◌==◌, cond, List, [], ◌∷◌, ◌++◌, drop, slice_index}
+use Rattle.std.specs.Prelude.{ℕ, zero, suc, ◌+◌, ◌-◌, ◌==◌, cond, List, [], ◌∷◌, ◌++◌, drop, slice_index, replicate}
 use Rattle.mh_values.specs.declared.types.MethodTy.{MethodTy}
 use Rattle.mh_intern.specs.declared.holding.Entry.{Entry}
 use Rattle.mh_intern.specs.declared.holding.FullBucket.{FullBucket}
@@ -10,7 +10,7 @@ use Rattle.mh_intern.specs.Lists.{removed}
 
 -- the view of a seat that has nothing: a join leaves it of the other seat
 abbrev pub nothing : Holding
-nothing = record { holds = []; room = 0; asked = []; full = []; keeps = []; entries = []; zeros = []; busy = []; wanted = [] }
+nothing = record { holds = []; kept = []; room = 0; asked = []; full = []; keeps = []; entries = []; zeros = []; busy = []; wanted = [] }
 
 -- the view of a caller
 abbrev pub caller : List Entry → ℕ → List MethodTy → List FullBucket → Holding
@@ -29,6 +29,7 @@ at_rest bucket entries = keeper (bucket ∷ []) entries [] [] [] 0
 abbrev pub joined_views : Holding → Holding → Holding
 joined_views v w = record {
   holds = w.holds ++ v.holds;
+  kept = w.kept ++ v.kept;
   room = w.room + v.room;
   asked = w.asked ++ v.asked;
   full = w.full ++ v.full;
@@ -39,13 +40,29 @@ joined_views v w = record {
   wanted = w.wanted ++ v.wanted;
 }
 
--- a caller has one hold more, and room for one less
+-- a caller has one hold more that the words count, and room for one less
 abbrev pub held_more : Entry → Holding → Holding
-held_more e v = record v { holds = e ∷ v.holds; room = v.room - 1 }
+held_more e v = record v { holds = e ∷ v.holds; kept = e ∷ v.kept; room = v.room - 1 }
 
--- a caller has one hold less, and room for one more
+-- a caller has one hold less that the words count, and room for one more
 abbrev pub held_less : Entry → Holding → Holding
-held_less e v = record v { holds = removed e v.holds; room = v.room + 1 }
+held_less e v = record v { holds = removed e v.holds; kept = removed e v.kept; room = v.room + 1 }
+
+-- a caller keeps one hold more, which stands on one that is counted
+abbrev pub kept_more : Entry → Holding → Holding
+kept_more e v = record v { kept = e ∷ v.kept }
+
+-- the same, where the type was asked for
+abbrev pub kept_asked : Entry → Holding → Holding
+kept_asked e v = record v { kept = e ∷ v.kept; asked = e.ty ∷ v.asked }
+
+-- a caller keeps one hold less, and as many as before are counted
+abbrev pub kept_less : Entry → Holding → Holding
+kept_less e v = record v { kept = removed e v.kept }
+
+-- so many holds more are counted, of those that a caller keeps
+abbrev pub counted_more : ℕ → Entry → Holding → Holding
+counted_more n e v = record v { holds = replicate n e ++ v.holds; room = v.room - n }
 
 -- a keeper with these notes
 abbrev pub with_notes : List ℕ → List ℕ → Holding → Holding
@@ -75,9 +92,9 @@ request t = keeper [] [] [] [] (t ∷ []) 1
 abbrev pub after_reply : Holding → Holding
 after_reply v = record v { holds = []; room = 0; zeros = []; busy = []; wanted = [] }
 
--- its reply: the hold
+-- its reply: the hold, which the caller keeps
 abbrev pub reply : Holding → Holding
-reply v = caller v.holds v.room [] []
+reply v = record (caller v.holds v.room [] []) { kept = v.holds }
 
 -- the bucket of a keeper, with what was read in it
 abbrev pub full_bucket : Holding → FullBucket

@@ -10,4 +10,6 @@ pub mod Steps
 pub mod Interning
 pub mod Views
 pub mod Seats
+pub mod Notes
+pub mod Callers
 pub mod Trades

@@ -7,7 +7,7 @@ use Rattle.mh_intern.specs.declared.holding.Holding.{Holding}
 use Rattle.mh_intern.specs.Held.{on_slot, weight, asks, uses, IsFull}
 use Rattle.mh_seats.specs.Room.{limit}
 use Rattle.mh_intern.specs.Lists.{Agrees}
-use Rattle.mh_intern.specs.Kinds.{held_more, held_less, after_read, after_raise}
+use Rattle.mh_intern.specs.Kinds.{held_more, held_less, kept_more, kept_asked, kept_less, counted_more, after_read, after_raise}
 
 -- what a seat of the table of holders knows and carries
 abbrev pub HMe : Type 0
@@ -20,6 +20,22 @@ dups e _ m _ m' = (m'.0 ≡ held_more e m.0) × (m'.1 ≡ m.1)
 -- a caller has one hold less
 abbrev pub releases : Entry → Step (Unit {0}) → HMe → ℕ → HMe → Type 0
 releases e _ m _ m' = (m'.0 ≡ held_less e m.0) × (m'.1 ≡ m.1)
+
+-- a caller keeps one hold more, of what is counted
+abbrev pub keeps_more : Entry → Step (Unit {0}) → HMe → ℕ → HMe → Type 0
+keeps_more e _ m _ m' = (m'.0 ≡ kept_more e m.0) × (m'.1 ≡ m.1)
+
+-- the same, after the type was asked for
+abbrev pub keeps_asked : Entry → Step (Unit {0}) → HMe → ℕ → HMe → Type 0
+keeps_asked e _ m _ m' = (m'.0 ≡ kept_asked e m.0) × (m'.1 ≡ m.1)
+
+-- a caller keeps one hold less, and as many as before are counted
+abbrev pub keeps_less : Entry → Step (Unit {0}) → HMe → ℕ → HMe → Type 0
+keeps_less e _ m _ m' = (m'.0 ≡ kept_less e m.0) × (m'.1 ≡ m.1)
+
+-- so many holds more are counted
+abbrev pub counts : ℕ → Entry → Step (Unit {0}) → HMe → ℕ → HMe → Type 0
+counts n e _ m _ m' = (m'.0 ≡ counted_more n e m.0) × (m'.1 ≡ m.1)
 
 -- a slot was read, and n found; one that is not zero has an entry
 pub record WasRead (k n : ℕ) (v w : Holding) : Type 0 where

@@ -2,6 +2,7 @@ ghost use Rattle.std.specs.Prelude.{◌≡◌, ◌<◌, IfOk};
 ghost use Rattle.mh_intern.specs.Buckets.{slots};
 ghost use Rattle.mh_intern.specs.Seats.{held_at};
 
+use crate::caller::Caller;
 use crate::error::InternError;
 use crate::holding::Entry;
 use crate::kinds::Place;
@@ -62,13 +63,13 @@ impl HeldType {
 /// The answer of a keeper, as a hold of the seat that asked.
 pub(crate) fn held_of(
     answer: Result<Entry, InternError>,
-    seat: &Place,
+    caller: &Caller,
 ) -> Result<HeldType, InternError>
     requires { IfOk answer (λ e. e.slot < slots) }
-    ensures { result ≡ held_at seat.now.table_id answer }
+    ensures { result ≡ held_at caller.now.table answer }
 {
     match answer {
-        Ok(entry) => Ok(HeldType::of(entry, seat)),
+        Ok(entry) => Ok(caller.hold(entry)),
         Err(error) => Err(error),
     }
 }

@@ -8,15 +8,16 @@ ghost use Rattle.mh_intern.specs.Buckets.{bucket_of, bucket_at, slots};
 ghost use Rattle.mh_intern.specs.Held.{on_type, has, weight, asks, uses, IsFull};
 ghost use Rattle.mh_seats.specs.Room.{limit, times};
 ghost use Rattle.mh_intern.specs.Lists.{Places, Agrees};
-ghost use Rattle.mh_intern.specs.Kinds.{caller, joined_views, first, without_first, first_keeper, less_room, after_request, request, after_reply, reply, full_bucket, refusal, held_more, held_less, after_raise};
+ghost use Rattle.mh_intern.specs.Kinds.{caller, joined_views, first, without_first, first_keeper, less_room, after_request, request, after_reply, reply, full_bucket, refusal, held_more, held_less, kept_more, kept_asked, kept_less, counted_more, after_raise};
 ghost use Rattle.mh_intern.specs.Plays.{WasRead};
 ghost use Rattle.mh_intern.specs.Steps.{IsOfHolders, MayAsk, IsTableOfHolders};
 
 use crate::bucket::SLOTS;
 use crate::holding::Entry;
 use crate::kinds::{
-    Duplicating, Holders, Joining, Looking, Operand, Part, Place, Raising, Reading, Refusing,
-    Releasing, Replying, Requesting, SplittingKeeper, SplittingRoom, Steps, Wanted,
+    Asking, Counting, Duplicating, Holders, Joining, Keeping, Leaving, Looking, Operand, Part,
+    Place, Raising, Reading, Refusing, Releasing, Replying, Requesting, SplittingKeeper,
+    SplittingRoom, Steps, Wanted,
 };
 use atomic_table::Closed;
 use mh_values::MethodTy;
@@ -98,6 +99,51 @@ pub(crate) fn lower<O: Operand>(steps: &Steps, seat: &mut Place, hold: &Entry)
     ensures { Moves (held_less hold.now) seat.old seat.new }
 {
     steps.fetch_sub::<Releasing<O>>(seat, hold.slot as usize, 1);
+}
+
+/// A caller keeps one hold more of what it holds. The words stay.
+pub(crate) fn keep_more<O: Operand>(steps: &Steps, seat: &mut Place, hold: &Entry)
+    requires seat { IsOfHolders seat.old.table_id steps.now.table_id }
+    requires pick { O.hold ≡ hold.now }
+    requires slot { hold.now.slot < slots }
+    requires held { 0 < has hold.now.slot hold.now.ty seat.old.me.0.holds }
+    ensures { Moves (kept_more hold.now) seat.old seat.new }
+{
+    steps.load::<Keeping<O>>(seat, hold.slot as usize);
+}
+
+/// A caller has asked for a type that it holds, and keeps one hold more. The words stay.
+pub(crate) fn keep_asked<O: Operand>(steps: &Steps, seat: &mut Place, hold: &Entry)
+    requires seat { IsOfHolders seat.old.table_id steps.now.table_id }
+    requires pick { O.hold ≡ hold.now }
+    requires slot { hold.now.slot < slots }
+    requires held { 0 < has hold.now.slot hold.now.ty seat.old.me.0.holds }
+    ensures { Moves (kept_asked hold.now) seat.old seat.new }
+{
+    steps.load::<Asking<O>>(seat, hold.slot as usize);
+}
+
+/// A caller keeps one hold less of what it holds. The words stay.
+pub(crate) fn keep_less<O: Operand>(steps: &Steps, seat: &mut Place, hold: &Entry)
+    requires seat { IsOfHolders seat.old.table_id steps.now.table_id }
+    requires pick { O.hold ≡ hold.now }
+    requires slot { hold.now.slot < slots }
+    requires held { 0 < has hold.now.slot hold.now.ty seat.old.me.0.holds }
+    ensures { Moves (kept_less hold.now) seat.old seat.new }
+{
+    steps.load::<Leaving<O>>(seat, hold.slot as usize);
+}
+
+/// So many holds more of a caller are counted, of what it holds.
+pub(crate) fn count_more<O: Operand>(steps: &Steps, seat: &mut Place, hold: &Entry, count: u64)
+    requires seat { IsOfHolders seat.old.table_id steps.now.table_id }
+    requires pick { (O.hold ≡ hold.now) × (O.count ≡ count) }
+    requires slot { hold.now.slot < slots }
+    requires room { count ≤ seat.old.me.0.room }
+    requires held { 0 < has hold.now.slot hold.now.ty seat.old.me.0.holds }
+    ensures { Moves (counted_more count hold.now) seat.old seat.new }
+{
+    steps.fetch_add::<Counting<O>>(seat, hold.slot as usize, count);
 }
 
 /// A request of a caller for a type, which takes one room with it.

@@ -32,12 +32,14 @@ pub struct FullBucket {
     pub busy: LinkedList<u32>,
 }
 
-// What a seat of the table of holders knows. A caller has holds, the types that it asked for, the
-// full buckets that it found, and room. A keeper has buckets, their list, the slots that it read as
-// zero and as not zero, and during a request the type that is wanted. A note has one of these. No
-// value of it is made.
+// What a seat of the table of holders knows. A caller has holds that the words count, and the holds
+// that it keeps: several of one type may stand on one that is counted. It has room, the types that
+// it asked for and the full buckets that it found. A keeper has buckets, their list, the slots that
+// it read as zero and as not zero, and during a request the type that is wanted. A message has one
+// of these. No value of it is made.
 pub struct Holding {
     pub holds: LinkedList<Entry>,
+    pub kept: LinkedList<Entry>,
     pub room: u64,
     pub asked: LinkedList<MethodTy>,
     pub full: LinkedList<FullBucket>,

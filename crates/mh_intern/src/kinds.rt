@@ -5,7 +5,7 @@ ghost use Rattle.mh_intern.specs.declared.holding.Entry.{Entry};
 ghost use Rattle.mh_intern.specs.Held.{Held};
 ghost use Rattle.mh_intern.specs.Lists.{entry};
 ghost use Rattle.mh_intern.specs.Kinds.{caller, joined_views, nothing, first, without_first, first_keeper, less_room, after_request, request, after_reply, reply, refusal};
-ghost use Rattle.mh_intern.specs.Plays.{dups, releases, reads, raises, looks};
+ghost use Rattle.mh_intern.specs.Plays.{dups, releases, keeps_more, keeps_asked, keeps_less, counts, reads, raises, looks};
 
 use crate::holding::{Entry, Holding};
 use atomic_table::{Join, Play, Seat, Shared, Split, Table, TableRule};
@@ -16,7 +16,7 @@ use std::marker::{Brand, PhantomData};
 /// The rule of the table of holders.
 pub(crate) struct Rule;
 
-/// The table of holders: a word for each slot, which is the number of its holds.
+/// The table of holders: a word for each slot, which is the number of its holds that are counted.
 pub(crate) type Holders = Table<(), Holding, (), Rule, Global>;
 
 /// The steps of a table of holders.
@@ -107,15 +107,19 @@ impl Split<Holding> for SplittingKeeper {
     ghost right = { first_keeper };
 }
 
-/// The hold of a step, and the list of the bucket after it.
+/// The hold of a step, how often it is taken, and the list of the bucket after it.
 pub(crate) trait Operand {
     ghost hold: { Entry };
+
+    ghost count: { ℕ };
 
     ghost entries: { List Entry };
 }
 
 impl Operand for Brand {
     ghost hold = { entry 0 (record { params = []; ret = Rattle.std.specs.Prelude.None }) };
+
+    ghost count = { 0 };
 
     ghost entries = { [] };
 }
@@ -136,6 +140,42 @@ pub(crate) struct Releasing<O> {
 
 impl<O: Operand> Play<(), Holding> for Releasing<O> {
     ghost then = { releases O.hold };
+}
+
+/// A read: a caller keeps one hold more of what it holds.
+pub(crate) struct Keeping<O> {
+    of: PhantomData<O>,
+}
+
+impl<O: Operand> Play<(), Holding> for Keeping<O> {
+    ghost then = { keeps_more O.hold };
+}
+
+/// A read: the same, after the caller asked for the type.
+pub(crate) struct Asking<O> {
+    of: PhantomData<O>,
+}
+
+impl<O: Operand> Play<(), Holding> for Asking<O> {
+    ghost then = { keeps_asked O.hold };
+}
+
+/// A read: a caller keeps one hold less, and as many as before are counted.
+pub(crate) struct Leaving<O> {
+    of: PhantomData<O>,
+}
+
+impl<O: Operand> Play<(), Holding> for Leaving<O> {
+    ghost then = { keeps_less O.hold };
+}
+
+/// A raise: more of a caller's holds are counted.
+pub(crate) struct Counting<O> {
+    of: PhantomData<O>,
+}
+
+impl<O: Operand> Play<(), Holding> for Counting<O> {
+    ghost then = { counts O.count O.hold };
 }
 
 /// A raise: a keeper has the hold that it was asked for, and its list has the entry.

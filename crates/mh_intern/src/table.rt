@@ -6,6 +6,7 @@ ghost use Rattle.mh_intern.specs.Trades.{Trades, hold_of};
 ghost use Rattle.mh_intern.specs.Views.{new_seat, with_hold, without_hold, with_less_room, joined_seats};
 ghost use Rattle.mh_intern.specs.Seats.{Holds, Interns, KeepsSlot, Knows, distinct_slots, distinct_types};
 
+use crate::caller::Caller;
 use crate::claims::{self, Claims};
 use crate::error::InternError;
 use crate::held::{HeldType, held_of};
@@ -13,11 +14,11 @@ use crate::holders;
 use crate::keeper::deal_keepers;
 use crate::kinds::Holders;
 use crate::seat::TypeSeat;
-use crate::serve::{Request, serve};
+use crate::serve::Request;
 use mh_base::NoMemory;
 use mh_values::MethodTy;
 use std::alloc::Global;
-use std::marker::{Brand, Model};
+use std::marker::Model;
 use std::sync::Wait;
 
 /// A table of types that threads share: 64 buckets of 32 slots. Contracts see which table it is.
@@ -56,6 +57,7 @@ impl TypeTable {
         let (holders, mut caller) = holders::new_holders(alloc)?;
         let keepers = deal_keepers(alloc, &holders.shared, &mut caller)?;
         let (claims, claimer) = claims::new_claims(alloc, keepers, &caller)?;
+        let caller = Caller::new(alloc, caller);
         Ok((TypeTable { claims, holders }, TypeSeat { claimer, caller }))
     }
 
@@ -69,17 +71,18 @@ impl TypeTable {
     {
         let TypeTable { claims: _, holders } = self;
         let TypeSeat { claimer: _, caller } = seat;
-        holders::slots_in_use(holders.close_with(caller))
+        let last = caller.settled(&holders.shared);
+        holders::slots_in_use(holders.close_with(last))
     }
 
     /// A hold of a type, which takes one room. If the seat holds the type already, it is of the
     /// slot that the seat holds. The seat has room, and room and holds of 2 or more together, since
     /// the request takes one room with it.
     ///
-    /// It waits while another thread asks for a type of the same bucket. The answer is `TypesFull`
-    /// if each of the 32 slots of the bucket has another type and was read as held in this call. A
-    /// type that has a slot takes no memory. Otherwise, if none is left, the answer is `NoMemory`
-    /// and nothing has changed.
+    /// It may wait while another thread asks for a type of the same bucket. The answer is
+    /// `TypesFull` if each of the 32 slots of the bucket has another type and was read as held in
+    /// this call. A type that has a slot needs no memory. Otherwise, if none is left, the answer is
+    /// `NoMemory` and nothing has changed.
     pub fn intern<R: Wait>(
         &self,
         rt: &R,
@@ -95,13 +98,15 @@ impl TypeTable {
         ensures traded { Trades seat.old.holds [] (hold_of result) seat.new.holds }
         ensures known { Knows seat.new }
     {
+        let steps = &self.holders.shared;
+        if let Some(entry) = seat.caller.again(steps, &ty)? {
+            return Ok(seat.caller.hold(entry));
+        }
         let request = Request::of(ty);
         let bucket = request.bucket;
         let mut keeper = claims::claim(rt, &self.claims.shared, &mut seat.claimer, bucket);
-        let steps = &self.holders.shared;
-        let answer = serve(alloc, steps, &mut keeper, &mut seat.caller, request);
+        let answer = seat.caller.ask(steps, &mut keeper, request);
         claims::put_back(&self.claims.shared, &mut seat.claimer, bucket, keeper);
-        holders::look(steps, &mut seat.caller);
         held_of(answer, &seat.caller)
     }
 
@@ -121,9 +126,8 @@ impl TypeTable {
         ensures held { IfOk result (λ h. Holds seat.new h) }
         ensures err { OnErr result (seat.new ≡ seat.old) }
     {
-        let entry = held.entry.share()?;
-        holders::raise_held::<Brand>(&self.holders.shared, &mut seat.caller, &held.entry);
-        Ok(HeldType::of(entry, &seat.caller))
+        let entry = seat.caller.dup(&self.holders.shared, &held.entry)?;
+        Ok(seat.caller.hold(entry))
     }
 
     /// One hold less, which gives its room back. It takes no memory and does not wait.
@@ -133,7 +137,7 @@ impl TypeTable {
         ensures traded { Trades seat.old.holds (held.entry ∷ []) [] seat.new.holds }
         ensures released { seat.new ≡ without_hold held.entry seat.old }
     {
-        holders::lower::<Brand>(&self.holders.shared, &mut seat.caller, &held.entry);
+        seat.caller.release(&self.holders.shared, &held.entry);
     }
 
     /// Whether two holds of the seat are of the same type. It compares their slots, takes no memory
@@ -156,7 +160,7 @@ impl TypeTable {
         ensures new { result ≡ new_seat seat.old.table room }
     {
         let claimer = claims::split(&self.claims.shared, &mut seat.claimer);
-        let caller = holders::split_room::<Brand>(&self.holders.shared, &mut seat.caller, room);
+        let caller = seat.caller.split(&self.holders.shared, room);
         TypeSeat { claimer, caller }
     }
 
@@ -168,7 +172,6 @@ impl TypeTable {
     {
         let TypeSeat { claimer, caller } = other;
         claims::join(&self.claims.shared, &mut seat.claimer, claimer);
-        holders::join(&self.holders.shared, &mut seat.caller, caller);
-        holders::look(&self.holders.shared, &mut seat.caller);
+        seat.caller.join(&self.holders.shared, caller);
     }
 }

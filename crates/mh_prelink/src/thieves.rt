@@ -11,9 +11,9 @@ use crate::worked::{Lane, Worked};
 use crate::working::{Owner, finish_work, ready, take_on};
 use crossbeam_deque::{Steal, Stealer};
 use mh_base::NoMemory;
+use mh_threads::call_beside;
 use std::alloc::Global;
 use std::sync::Wait;
-use std::thread;
 use std::thread::Threads;
 
 /// What all thieves share.
@@ -62,11 +62,8 @@ pub(crate) fn steal_beside<N: Bound + Send + Sync, L: Linking + Sync, R: Threads
     ensures { HaveWorked (HasStolen (λ l. IsPassOf (stealer_deque thief.entry.now) l.place)
         (L.step linking.entry.now) (L.has linking.entry.now)) lanes.old lanes.new }
 {
-    let count = lanes.len();
-    thread::for_each_mut(
+    call_beside(
         rt,
-        lanes,
-        count,
         &|_, lane: &mut Lane<L::Pass, L::Stop>|
             requires { CanSteal (λ l. IsPassOf (stealer_deque thief.now) l.place)
                 (L.step linking.now) (L.has linking.now) (L.room linking.now) N.bound lane.old
@@ -74,6 +71,7 @@ pub(crate) fn steal_beside<N: Bound + Send + Sync, L: Linking + Sync, R: Threads
             ensures { HasStolen (λ l. IsPassOf (stealer_deque thief.entry.now) l.place)
                 (L.step linking.entry.now) (L.has linking.entry.now) lane.old lane.new }
         { steal_all(rt, linking, thief, lane) },
+        lanes,
     );
 }
 

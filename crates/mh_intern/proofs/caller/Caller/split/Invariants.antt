@@ -1,4 +1,4 @@
-use Rattle.mh_intern.proofs.table.TypeTable.split.Given as goal
+use Rattle.mh_intern.proofs.caller.Caller.split.Given as goal
 
 abbrev pub ghosts-split_room : goal.ghosts-split_room
 ghosts-split_room a = record { room = a.room }

@@ -1,0 +1,10 @@
+use Rattle.std.proofs.Common.{arith}
+use Rattle.mh_intern.proofs.Callers.{keeps_less_allowed}
+use Rattle.mh_intern.proofs.holders.keep_less.Goals as goal
+
+pub load-requires : goal.load-requires
+load-requires g c = rw c.requires.pick (
+  c.requires.seat.0,
+  omega arith,
+  keeps_less_allowed _ _ _ c.args.hold.now _ (λ _. c.args.hold.now.slot) c.requires.slot c.requires.held,
+)
