@@ -217,11 +217,7 @@ fn read_handle<'b>(cursor: &mut Cursor<'b>) -> Result<Entry<'b>, ClassFault>
 
 // The contents of an entry, except a Utf8 one, after its tag, which is at `at`.
 #[tactic(auto, unfolding(crate::specs::Entries::contents))]
-fn read_contents<'b>(
-    tag: u8,
-    at: usize,
-    cursor: &mut Cursor<'b>,
-) -> Result<Entry<'b>, ClassFault>
+fn read_contents<'b>(tag: u8, at: usize, cursor: &mut Cursor<'b>) -> Result<Entry<'b>, ClassFault>
     ensures reads { Reads (λ x. x) result cursor.old cursor.new (contents tag at) }
 {
     match tag {
