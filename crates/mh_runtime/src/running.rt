@@ -52,6 +52,7 @@ use mh_threads::fork_join;
 use mh_tickets::TicketSeat;
 use std::alloc::Global;
 use std::marker::{Brand, PhantomData};
+use std::mem;
 use std::sync::Wait;
 use std::thread::Threads;
 
@@ -361,7 +362,11 @@ fn run_owned<'t, J: Run + Send + Sync, R: Threads + Wait + Sync, G: Gate + Sync>
         gate: input.gate,
         workers: input.workers,
     };
-    run_linked(rt, &shared, seats, asked)
+    let made = run_linked(rt, &shared, seats, asked);
+
+    // To give some 17 blocks of memory back for each site would take a tenth of the run.
+    mem::forget(shared);
+    made
 }
 
 // There are at most as many constants as a pass may draw serials that was split off. More take more
@@ -426,7 +431,8 @@ fn run_named<J: Run + Send + Sync, R: Threads + Wait + Sync, G: Gate + Sync>(
 
 /// Runs the calls of a plan, with concurrent threads, over one linker and one table of forms, which
 /// has numbers for 16,384 forms. The plan is one of these leaves and call sites, and within the
-/// limits on threads and calls; there are at most 4,096 sites.
+/// limits on threads and calls; there are at most 4,096 sites. What was linked lasts as long as the
+/// process: it is for a program that makes one run.
 ///
 /// A thread links a site at its first call of it, unless it finds it linked by another thread. What
 /// is recorded first stays, even an error, and each caller of the site gets it. The gate is called

@@ -3,14 +3,21 @@ ghost use denote.Param.Send.{IsSync, IsSend};
 ghost use Rattle.std.specs.Fork.{AcceptsAt, AcceptsEach, ChangesAt, ChangesEach};
 ghost use Rattle.mh_threads.specs.Beside.{AreAt, AreDoneAt, IsDoneAt};
 
+use std::sync::Wait;
+use std::sync::atomic::AtomicU64;
 use std::thread;
 use std::thread::Threads;
+use std::time::Duration;
+
+// How long the caller waits before it starts a thread, in microseconds.
+const APART: u64 = 100;
 
 /// Calls `f` with each place and lane, each in a thread of its own. The caller starts the threads
 /// one after the other, and then only waits: a thread that the system puts on the caller's
-/// processor has it at once. If a thread cannot be started, the caller makes its call. The caller's
-/// stack grows with the number of lanes.
-pub fn call_beside<R: Threads + Sync, L: Send, F: Fn(usize, &mut L) + Sync>(
+/// processor has it at once. It waits for 100 microseconds before each start. Threads that start at
+/// the same time ask for their first memory together, and then wait for each other. If a thread
+/// cannot be started, the caller makes its call. The caller's stack grows with the number of lanes.
+pub fn call_beside<R: Threads + Wait + Sync, L: Send, F: Fn(usize, &mut L) + Sync>(
     rt: &R,
     f: &F,
     lanes: &mut [L],
@@ -31,7 +38,7 @@ fn call_one<L, F: Fn(usize, &mut L)>(f: &F, place: usize, lane: &mut L)
 
 // Starts a thread for each lane, the first of which has this place, and waits for all.
 #[cycle(starting)]
-fn start_from<R: Threads + Sync, L: Send, F: Fn(usize, &mut L) + Sync>(
+fn start_from<R: Threads + Wait + Sync, L: Send, F: Fn(usize, &mut L) + Sync>(
     rt: &R,
     f: &F,
     place: usize,
@@ -44,12 +51,15 @@ fn start_from<R: Threads + Sync, L: Send, F: Fn(usize, &mut L) + Sync>(
     let Some((lane, others)) = lanes.split_first_mut() else {
         return;
     };
+
+    // Nothing ends this wait before its time.
+    AtomicU64::new(0).park_timeout(rt, 0, Duration::from_micros(APART));
     start_next(rt, f, place, lane, others);
 }
 
 // Starts a thread for a lane, and then those for the others.
 #[cycle(starting)]
-fn start_next<R: Threads + Sync, L: Send, F: Fn(usize, &mut L) + Sync>(
+fn start_next<R: Threads + Wait + Sync, L: Send, F: Fn(usize, &mut L) + Sync>(
     rt: &R,
     f: &F,
     place: usize,
