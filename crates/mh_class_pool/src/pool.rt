@@ -101,7 +101,7 @@ pub fn read_pool<'b>(
 ) -> Result<Pool<'b>, ClassError>
     ensures gives { Gives (λ p. p) result cursor.old cursor.new (pool_of count) }
 {
-    let mut slots = Vec::new(alloc);
+    let mut slots = Vec::with_capacity(alloc, usize::from(count))?;
     let mut dynamics = Vec::new(alloc);
     slots.push(None)?;
     while slots.len() < count as usize {

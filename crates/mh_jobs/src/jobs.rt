@@ -8,7 +8,7 @@ ghost use Rattle.mh_jobs.specs.Parts.{AreRead};
 use crate::Job;
 use crate::sites::{SiteRead, site_job};
 use crate::types::{no_types, read_once};
-use crate::unresolved::{Entry, Numbering, entry_in};
+use crate::unresolved::{Entry, Numbering, arguments_in};
 use mh_base::{NoMemory, Seq};
 use std::alloc::Global;
 use std::marker::Model;
@@ -99,11 +99,8 @@ pub(crate) fn push_sites(
         let site = from.view.site(k);
         let (others, ty) = read_once(alloc, from.leaves.classes(), types, site.descriptor.bytes())?;
         types = others;
-        let entry = entry_in(alloc, from, entries, site.bootstrap)?;
-        let read = SiteRead {
-            ty,
-            arguments: entry.arguments,
-        };
+        let arguments = arguments_in(alloc, from, entries, site.bootstrap)?;
+        let read = SiteRead { ty, arguments };
         let job = site_job(alloc, from, number, &site, read)?;
         jobs.push(job)?;
     }

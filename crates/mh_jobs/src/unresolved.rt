@@ -102,8 +102,9 @@ fn parts_of(
         ≡ static_arguments from.now.leaves.now from.now.view.now from.now.first
         (constants_at from.now.view.now bootstrap)) }
 {
-    let mut parts = Seq::new(alloc);
-    for k in 0..count(from.view, bootstrap) {
+    let count = count(from.view, bootstrap);
+    let mut parts = Seq::from_vec(Vec::with_capacity(alloc, usize::from(count))?);
+    for k in 0..count {
         let constant = constant(from.view, bootstrap, k);
         match part_of(alloc, from, &constant) {
             Ok(part) => parts.push(part)?,
@@ -132,6 +133,16 @@ fn names_of(alloc: Global, from: &Numbering<'_, '_>, bootstrap: u16) -> Result<S
     Ok(names)
 }
 
+/// A list that no longer changes. It takes no memory if there are no items.
+fn frozen<T: Drop>(alloc: Global, items: Seq<T>) -> Result<Frozen<T>, NoMemory>
+    ensures { IfOk result (λ frozen. frozen ≡ items) }
+{
+    if items.is_empty() {
+        return Ok(Frozen::new());
+    }
+    Frozen::of(alloc, items)
+}
+
 /// What is read of the static arguments of a bootstrap method.
 fn entry_of(alloc: Global, from: &Numbering<'_, '_>, bootstrap: u16) -> Result<Entry, NoMemory>
     requires few { from.now.first + length from.now.view.now.dynamics < 2 ^ 32 }
@@ -144,10 +155,10 @@ fn entry_of(alloc: Global, from: &Numbering<'_, '_>, bootstrap: u16) -> Result<E
     let names = names_of(alloc, from, bootstrap)?;
     Ok(Entry {
         arguments: StaticArguments {
-            parts: Frozen::of(alloc, parts)?,
+            parts: frozen(alloc, parts)?,
             thrown,
         },
-        names: Frozen::of(alloc, names)?,
+        names: frozen(alloc, names)?,
     })
 }
 
@@ -164,20 +175,17 @@ fn no_entry() -> Entry
     }
 }
 
-/// What was read, which is not read again.
-fn shared(alloc: Global, entry: &Entry) -> Result<Entry, NoMemory>
-    ensures { IfOk result (λ copy. copy ≡ entry.now) }
+/// Static arguments that were read, which are not read again.
+fn shared(alloc: Global, arguments: &StaticArguments) -> Result<StaticArguments, NoMemory>
+    ensures { IfOk result (λ copy. copy ≡ arguments.now) }
 {
-    let thrown = match &entry.arguments.thrown {
+    let thrown = match &arguments.thrown {
         Some(exc) => Some(exc.copy(alloc)?),
         None => None,
     };
-    Ok(Entry {
-        arguments: StaticArguments {
-            parts: entry.arguments.parts.copy()?,
-            thrown,
-        },
-        names: entry.names.copy()?,
+    Ok(StaticArguments {
+        parts: arguments.parts.copy()?,
+        thrown,
     })
 }
 
@@ -212,6 +220,24 @@ pub(crate) fn entries_of(alloc: Global, from: &Numbering<'_, '_>) -> Result<Seq<
     Ok(entries)
 }
 
+/// The static arguments of a bootstrap method; none, where it is not there.
+pub(crate) fn arguments_in(
+    alloc: Global,
+    from: &Numbering<'_, '_>,
+    entries: &Seq<Entry>,
+    bootstrap: u16,
+) -> Result<StaticArguments, NoMemory>
+    requires { AreRead from.now.leaves.now from.now.view.now from.now.first entries.now }
+    ensures { IfOk result (λ arguments. arguments
+        ≡ static_arguments from.now.leaves.now from.now.view.now from.now.first
+        (constants_at from.now.view.now bootstrap)) }
+{
+    if bootstrap >= from.view.bootstraps() {
+        return Ok(no_entry().arguments);
+    }
+    shared(alloc, &entries.get(bootstrap as usize).arguments)
+}
+
 /// What is read of the static arguments of a bootstrap method; nothing, where it is not there.
 pub(crate) fn entry_in(
     alloc: Global,
@@ -227,5 +253,9 @@ pub(crate) fn entry_in(
     if bootstrap >= from.view.bootstraps() {
         return Ok(no_entry());
     }
-    shared(alloc, entries.get(bootstrap as usize))
+    let entry = entries.get(bootstrap as usize);
+    Ok(Entry {
+        arguments: shared(alloc, &entry.arguments)?,
+        names: entry.names.copy()?,
+    })
 }

@@ -29,6 +29,7 @@ use mh_report::Report;
 use mh_runtime::WorkError;
 use mh_words::{Command, read_words};
 use std::alloc::Global;
+use std::mem;
 use std::sync::Wait;
 use std::thread::Threads;
 
@@ -101,31 +102,35 @@ fn answer_report<S: Sink>(sink: &mut S, answer: TopAnswer, report: &Report) -> T
 }
 
 // Runs a program, and writes its report, or that there are too few forms for it, or too few slots
-// for its types.
+// for its types. The program then lasts as long as the process.
 fn run_program<R: Threads + Wait + Sync, S: Sink, G: Gate + Sync>(
     rt: &R,
     alloc: Global,
     sink: &mut S,
     gate: &G,
-    program: &Program,
+    program: Program,
 ) -> TopAnswer
-    requires { IsRunnable program.now }
+    requires { IsRunnable program }
     ensures report { result.status ≡ done
-        → Writes (IsReportOf program.now result) (S.taken sink.old) (S.taken sink.new) }
+        → Writes (IsReportOf program result) (S.taken sink.old) (S.taken sink.new) }
     ensures answers { result.status ≡ done
-        → AreAnswersOf program.now result.table result.constants result.threads }
+        → AreAnswersOf program result.table result.constants result.threads }
     ensures full { result.status ≡ forms_full
-        → Writes (IsFullOf program.now) (S.taken sink.old) (S.taken sink.new) }
+        → Writes (IsFullOf program) (S.taken sink.old) (S.taken sink.new) }
     ensures types { result.status ≡ types_full
-        → Writes (IsOverfullOf program.now) (S.taken sink.old) (S.taken sink.new) }
+        → Writes (IsOverfullOf program) (S.taken sink.old) (S.taken sink.new) }
     ensures broken { result.status ≡ write_failed
-        → WritesPart (IsDueOf program.now result) (S.taken sink.old) (S.taken sink.new) }
+        → WritesPart (IsDueOf program result) (S.taken sink.old) (S.taken sink.new) }
     ensures nothing { result.status ≡ no_memory → Keeps (S.taken sink.old) (S.taken sink.new) }
     ensures idle { result.status ≢ done → result.status ≢ write_failed → IsEmptyAnswer result }
     ensures status { result.status ≢ write_failed → IsDoneFullOrWant result.status }
     ensures fails { FailsWhere result.status (S.faults sink.old) (S.faults sink.new) }
 {
-    match run_and_report(rt, alloc, program, gate) {
+    let ran = run_and_report(rt, alloc, &program, gate);
+
+    // To give the blocks of memory of each job back would take a fortieth of the run.
+    mem::forget(program);
+    match ran {
         Ok((answer, report)) => answer_report(sink, answer, &report),
         Err(WorkError::NoMemory) => nothing_ran(alloc, NO_MEMORY),
         Err(WorkError::FormsFull { drawn: _ }) => {
@@ -207,7 +212,7 @@ fn answer_listing<S: Sink>(alloc: Global, sink: &mut S, text: &[u8]) -> TopAnswe
 
 /// The program: it reads what the words name, runs it with concurrent threads, and writes what it
 /// gives. Each thread calls the gate before and after it records the linkage of a site; a gate may
-/// hold it there, and changes nothing.
+/// hold it there, and changes nothing. What was read and linked lasts as long as the process.
 pub fn top<'a, R: Threads + Wait + Sync, I: Inputs, S: Sink, G: Gate + Sync>(
     rt: &R,
     alloc: Global,
@@ -287,7 +292,7 @@ pub fn top<'a, R: Threads + Wait + Sync, I: Inputs, S: Sink, G: Gate + Sync>(
     };
     match command {
         Command::Run(names) => match read_program(alloc, inputs, &names, Output::Report) {
-            Ok(program) => run_program(rt, alloc, sink, gate, &program),
+            Ok(program) => run_program(rt, alloc, sink, gate, program),
             Err(stop) => answer_stop(alloc, sink, stop),
         },
         Command::Sites(names) => match list_sites(alloc, inputs, &names) {
@@ -295,7 +300,7 @@ pub fn top<'a, R: Threads + Wait + Sync, I: Inputs, S: Sink, G: Gate + Sync>(
             Err(stop) => answer_stop(alloc, sink, stop),
         },
         Command::Generate(number) => match read_generated(alloc, number) {
-            Ok(made) => run_program(rt, alloc, sink, gate, &made),
+            Ok(made) => run_program(rt, alloc, sink, gate, made),
             Err(stop) => answer_stop(alloc, sink, stop),
         },
     }

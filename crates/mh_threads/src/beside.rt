@@ -14,9 +14,10 @@ const APART: u64 = 100;
 
 /// Calls `f` with each place and lane, each in a thread of its own. The caller starts the threads
 /// one after the other, and then only waits: a thread that the system puts on the caller's
-/// processor has it at once. It waits for 100 microseconds before each start. Threads that start at
-/// the same time ask for their first memory together, and then wait for each other. If a thread
-/// cannot be started, the caller makes its call. The caller's stack grows with the number of lanes.
+/// processor has it at once. Before each start except the first it waits for 100 microseconds, or
+/// less if the wait ends early. Threads that start at the same time ask for their first memory
+/// together, and then wait for each other. If a thread cannot be started, the caller makes its
+/// call. The caller's stack grows with the number of lanes.
 pub fn call_beside<R: Threads + Wait + Sync, L: Send, F: Fn(usize, &mut L) + Sync>(
     rt: &R,
     f: &F,
@@ -52,8 +53,9 @@ fn start_from<R: Threads + Wait + Sync, L: Send, F: Fn(usize, &mut L) + Sync>(
         return;
     };
 
-    // Nothing ends this wait before its time.
-    AtomicU64::new(0).park_timeout(rt, 0, Duration::from_micros(APART));
+    if place > 0 {
+        AtomicU64::new(0).park_timeout(rt, 0, Duration::from_micros(APART));
+    }
     start_next(rt, f, place, lane, others);
 }
 

@@ -15,7 +15,7 @@ asked slots kept count n k lt index len = record {
 
 pub loop-cursor-init : goal.loop-cursor-init
 loop-cursor-init c =
-    let e : c.push.new.self.items ≡ None ∷ [] = rw (c.in_ok-push.ensures.items, c.new-slots.ensures.items) refl in
+    let e : c.push.new.self.items ≡ None ∷ [] = rw (c.in_ok-push.ensures.items, c.in_ok-slots.ensures.items) refl in
     let d : c.new-dynamics.result.items ≡ [] = c.new-dynamics.ensures.items in
     rw (e, d) (starts c.args.cursor.now c.args.count (omega arith))
 
@@ -35,8 +35,8 @@ returns-in_err-entry c =
       };
     }
 
-pub loop-cursor-preserved-in-Continue-branch-5 : goal.loop-cursor-preserved-in-Continue-branch-5
-loop-cursor-preserved-in-Continue-branch-5 c =
+pub loop-cursor-preserved-in-Continue-branch-6 : goal.loop-cursor-preserved-in-Continue-branch-6
+loop-cursor-preserved-in-Continue-branch-6 c =
     let slots = c.loop-cursor.slots.items in
     let kept = c.loop-cursor.dynamics.items in
     let n : c.len-index.result ≡ length slots = omega arith in
