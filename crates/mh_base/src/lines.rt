@@ -4,8 +4,8 @@ ghost use Rattle.mh_base.specs.Lines.{is_passed, is_plain};
 use crate::NoMemory;
 use std::alloc::AllocError;
 
-/// Why a line was not taken: no memory is left, or the line has no meaning where it stands, with what
-/// is wrong with it.
+/// Why a line was not taken: no memory is left, or the line has no meaning where it stands, with
+/// what is wrong with it.
 #[derive(Clone, Copy, Debug, PartialEq, Eq)]
 pub enum LineError<K> {
     NoMemory,

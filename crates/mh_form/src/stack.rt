@@ -310,8 +310,8 @@ impl Stack {
         }
     }
 
-    // Puts a copy of the slot at a place after all slots. A slot of each kind is written where it is
-    // copied.
+    // Puts a copy of the slot at a place after all slots. A slot of each kind is written where it
+    // is copied.
     #[inline(always)]
     fn push_copy_at(&mut self, place: u32) -> Result<(), NoMemory>
         requires { slice_get self.old.frame place ≢ None }

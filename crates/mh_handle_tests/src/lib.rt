@@ -1,5 +1,5 @@
-//! Handles: no type stays held after they are made and called, each way to call one answers the same,
-//! and values, forms, handles and answers go from thread to thread. Keys that fit.
+//! Handles: no type stays held after they are made and called, each way to call one answers the
+//! same, and values, forms, handles and answers go from thread to thread. Keys that fit.
 #![tactic(auto)]
 
 #[cfg(test)]

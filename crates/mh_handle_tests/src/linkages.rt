@@ -13,7 +13,8 @@ use std::test::Fail;
 use std::thread;
 use std::thread::Threads;
 
-/// What a call site links: the number of the site, and the handle of its target. Contracts see both.
+/// What a call site links: the number of the site, and the handle of its target. Contracts see
+/// both.
 #[derive(Drop)]
 struct Linkage<'t> {
     site: u32,

@@ -69,7 +69,8 @@ impl Caller {
         HeldType::of(entry, &self.place)
     }
 
-    /// One hold more of what the caller holds. It fails only if 2^63 owners of the type are counted.
+    /// One hold more of what the caller holds. It fails only if 2^63 owners of the type are
+    /// counted.
     pub(crate) fn dup(&mut self, steps: &Steps, held: &Entry) -> Result<Entry, NoMemory>
         requires table { IsCallerOf steps.now.table_id self.old }
         requires slot { held.now.slot < slots }

@@ -75,8 +75,9 @@ pub fn is_method_name(name: &[u8]) -> bool
     !name.is_empty() && are_of_method_name(name)
 }
 
-/// The texts of a reference `OWNER.NAME:DESC`: the owner ends at the first `.`, the name at the next
-/// `:`, and the rest is the descriptor, whatever it is. `None` if the owner or the name is none.
+/// The texts of a reference `OWNER.NAME:DESC`: the owner ends at the first `.`, the name at the
+/// next `:`, and the rest is the descriptor, whatever it is. `None` if the owner or the name is
+/// none.
 pub fn read_reference(text: &[u8]) -> Option<Reference<'_>>
     ensures { option_map texts_of result ≡ reference_of text.now }
 {

@@ -1,4 +1,5 @@
-//! A class file that is made for a list of call sites: for tests, and for inputs that are generated.
+//! A class file that is made for a list of call sites: for tests, and for inputs that are
+//! generated.
 #![tactic(auto)]
 
 mod constants;

@@ -17,7 +17,8 @@ const MAX_STACK: usize = 2;
 /// The method is public and static (JVMS SE 17, 4.6).
 const METHOD_FLAGS: usize = 0x0009;
 
-/// Puts an attribute at the end of a file: the index of its name, the length of its contents, and these.
+/// Puts an attribute at the end of a file: the index of its name, the length of its contents, and
+/// these.
 #[tactic(auto, unfolding(crate::specs::Parts::attribute))]
 fn push_attribute(file: &mut Vec<u8>, name: usize, contents: &[u8]) -> Result<(), NoMemory>
     requires name { name < 2 ^ 16 }

@@ -78,8 +78,8 @@ fn try_root(
     })
 }
 
-/// A target with its cleanup, if their rule gives this type. If none is made, both handles are given
-/// back.
+/// A target with its cleanup, if their rule gives this type. If none is made, both handles are
+/// given back.
 pub fn tryfinally_of<'t, R: Wait>(
     w: &mut Work<'_, 't>,
     rt: &R,

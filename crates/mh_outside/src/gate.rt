@@ -32,8 +32,8 @@ const WINNER: u32 = 1;
 const TURNS: u64 = 2_000_000_000;
 
 /// A gate at which two threads that race for a site both attempt it, and thread 1 records first. It
-/// holds thread 1 before it records until thread 0 has come to record too, and thread 0 until thread
-/// 1 has recorded. Other threads pass at once.
+/// holds thread 1 before it records until thread 0 has come to record too, and thread 0 until
+/// thread 1 has recorded. Other threads pass at once.
 ///
 /// Each of the two is held for 2,000,000,000 looks at most, so that nothing hangs if the other
 /// thread never comes.

@@ -24,7 +24,8 @@ fn push_ascii(chars: &mut Vec<char>, text: &[u8]) -> Result<(), NoMemory>
     Ok(())
 }
 
-/// Writes characters at the end of others. If no memory is left, some of them may have been written.
+/// Writes characters at the end of others. If no memory is left, some of them may have been
+/// written.
 #[inline]
 pub fn push_chars(chars: &mut Vec<char>, text: &[char]) -> Result<(), NoMemory>
     ensures { OnOk result (chars.new.items ≡ chars.old.items ++ text.now) }

@@ -12,16 +12,13 @@ use crate::linking::Linking;
 use crate::rule::{Bound, Putting, Total};
 use crate::thieves::{Thief, fork_all, gather, steal_beside};
 use crate::worked::{Lane, Passes, Work, Worked, Workers};
-use crate::working::{Owner, finish_work, pop_all, ready};
+use crate::working::{MANY, Owner, finish_work, grow_heap, pop_all, ready};
 use mh_base::NoMemory;
 use std::alloc::Global;
 use std::marker::Brand;
 use std::sync::Wait;
 use std::thread;
 use std::thread::Threads;
-
-// With room for so many numbers, a worker has enough to do for a thread of its own.
-const MANY: usize = 256;
 
 // A deque of the numbers below the count, which has room for all of them.
 fn filled<N: Bound>(alloc: Global, count: u32) -> Result<Owner<N>, NoMemory>
@@ -73,102 +70,6 @@ fn popped<N: Bound, L: Linking, R: Wait>(
     (owner, mine)
 }
 
-// The deque's own worker pops in the caller's thread, while the thieves are started.
-fn pop_here<N: Bound + Send + Sync, L: Linking + Sync, R: Threads + Wait + Sync>(
-    rt: &R,
-    linking: &L,
-    thief: &Thief<N>,
-    owner: Owner<N>,
-    mine: Work<L::Pass, L::Stop>,
-    thieves: Vec<Lane<L::Pass, L::Stop>>,
-) -> (
-    Owner<N>,
-    Work<L::Pass, L::Stop>,
-    Vec<Lane<L::Pass, L::Stop>>,
-)
-    requires some { 0 < length thieves.items }
-    requires mine { CanPop (L.step linking.now) (L.has linking.now) (L.room linking.now) N.bound
-        owner mine }
-    requires lanes { All (CanSteal (λ l. IsPassOf (stealer_deque thief.now) l.place)
-        (L.step linking.now) (L.has linking.now) (L.room linking.now) N.bound) thieves.items }
-    requires flavor { stealer_flavor thief.now ≡ 0 }
-    requires bound { N.bound ≤ L.items linking.now }
-    ensures popped { HasPopped (L.step linking.entry.now) (L.has linking.entry.now)
-        (L.room linking.entry.now) N.bound owner mine result.0 result.1 }
-    ensures ran { HaveWorked (HasStolen (λ l. IsPassOf (stealer_deque thief.entry.now) l.place)
-        (L.step linking.entry.now) (L.has linking.entry.now)) thieves.items result.2.items }
-{
-    let (thieves, (owner, mine)) = thread::join(
-        rt,
-        move ||
-            requires { (0 < length thieves.items)
-                × All (CanSteal (λ l. IsPassOf (stealer_deque thief.now) l.place)
-                (L.step linking.now) (L.has linking.now) (L.room linking.now) N.bound)
-                thieves.items
-                × (stealer_flavor thief.now ≡ 0) × (N.bound ≤ L.items linking.now) }
-            ensures { HaveWorked (HasStolen
-                (λ l. IsPassOf (stealer_deque thief.entry.now) l.place)
-                (L.step linking.entry.now) (L.has linking.entry.now))
-                thieves.items result.items }
-        { stolen::<N, L, R>(rt, linking, thief, thieves) },
-        move ||
-            requires { CanPop (L.step linking.now) (L.has linking.now) (L.room linking.now)
-                N.bound owner mine × (N.bound ≤ L.items linking.now) }
-            ensures { HasPopped (L.step linking.entry.now) (L.has linking.entry.now)
-                (L.room linking.entry.now) N.bound owner mine result.0 result.1 }
-        { popped::<N, L, R>(rt, linking, owner, mine) },
-    );
-    (owner, mine, thieves)
-}
-
-// The deque's own worker pops in a thread of its own, and the caller only starts all threads.
-fn pop_apart<N: Bound + Send + Sync, L: Linking + Sync, R: Threads + Wait + Sync>(
-    rt: &R,
-    linking: &L,
-    thief: &Thief<N>,
-    owner: Owner<N>,
-    mine: Work<L::Pass, L::Stop>,
-    thieves: Vec<Lane<L::Pass, L::Stop>>,
-) -> (
-    Owner<N>,
-    Work<L::Pass, L::Stop>,
-    Vec<Lane<L::Pass, L::Stop>>,
-)
-    requires some { 0 < length thieves.items }
-    requires mine { CanPop (L.step linking.now) (L.has linking.now) (L.room linking.now) N.bound
-        owner mine }
-    requires lanes { All (CanSteal (λ l. IsPassOf (stealer_deque thief.now) l.place)
-        (L.step linking.now) (L.has linking.now) (L.room linking.now) N.bound) thieves.items }
-    requires flavor { stealer_flavor thief.now ≡ 0 }
-    requires bound { N.bound ≤ L.items linking.now }
-    ensures popped { HasPopped (L.step linking.entry.now) (L.has linking.entry.now)
-        (L.room linking.entry.now) N.bound owner mine result.0 result.1 }
-    ensures ran { HaveWorked (HasStolen (λ l. IsPassOf (stealer_deque thief.entry.now) l.place)
-        (L.step linking.entry.now) (L.has linking.entry.now)) thieves.items result.2.items }
-{
-    let ((owner, mine), thieves) = thread::join(
-        rt,
-        move ||
-            requires { CanPop (L.step linking.now) (L.has linking.now) (L.room linking.now)
-                N.bound owner mine × (N.bound ≤ L.items linking.now) }
-            ensures { HasPopped (L.step linking.entry.now) (L.has linking.entry.now)
-                (L.room linking.entry.now) N.bound owner mine result.0 result.1 }
-        { popped::<N, L, R>(rt, linking, owner, mine) },
-        move ||
-            requires { (0 < length thieves.items)
-                × All (CanSteal (λ l. IsPassOf (stealer_deque thief.now) l.place)
-                (L.step linking.now) (L.has linking.now) (L.room linking.now) N.bound)
-                thieves.items
-                × (stealer_flavor thief.now ≡ 0) × (N.bound ≤ L.items linking.now) }
-            ensures { HaveWorked (HasStolen
-                (λ l. IsPassOf (stealer_deque thief.entry.now) l.place)
-                (L.step linking.entry.now) (L.has linking.entry.now))
-                thieves.items result.items }
-        { stolen::<N, L, R>(rt, linking, thief, thieves) },
-    );
-    (owner, mine, thieves)
-}
-
 // The deque's own worker pops and the thieves steal, each in a thread of its own, until each stops
 // or finds the deque empty. With few items the caller is one of them: most are done before another
 // thread has started.
@@ -199,10 +100,33 @@ fn work_beside<N: Bound + Send + Sync, L: Linking + Sync, R: Threads + Wait + Sy
         let (owner, mine) = popped::<N, L, R>(rt, linking, owner, mine);
         return (owner, mine, thieves);
     }
-    if mine.taken.capacity() < MANY {
-        return pop_here::<N, L, R>(rt, linking, thief, owner, mine, thieves);
+    let apart = mine.taken.capacity() >= MANY;
+    let pop = move ||
+        requires { CanPop (L.step linking.now) (L.has linking.now) (L.room linking.now)
+            N.bound owner mine × (N.bound ≤ L.items linking.now) }
+        ensures { HasPopped (L.step linking.entry.now) (L.has linking.entry.now)
+            (L.room linking.entry.now) N.bound owner mine result.0 result.1 }
+    {
+        grow_heap(&mine.taken);
+        popped::<N, L, R>(rt, linking, owner, mine)
+    };
+    let steal = move ||
+        requires { (0 < length thieves.items)
+            × All (CanSteal (λ l. IsPassOf (stealer_deque thief.now) l.place)
+            (L.step linking.now) (L.has linking.now) (L.room linking.now) N.bound)
+            thieves.items
+            × (stealer_flavor thief.now ≡ 0) × (N.bound ≤ L.items linking.now) }
+        ensures { HaveWorked (HasStolen
+            (λ l. IsPassOf (stealer_deque thief.entry.now) l.place)
+            (L.step linking.entry.now) (L.has linking.entry.now))
+            thieves.items result.items }
+    { stolen::<N, L, R>(rt, linking, thief, thieves) };
+    if apart {
+        let ((owner, mine), thieves) = thread::join(rt, pop, steal);
+        return (owner, mine, thieves);
     }
-    pop_apart::<N, L, R>(rt, linking, thief, owner, mine, thieves)
+    let (thieves, (owner, mine)) = thread::join(rt, steal, pop);
+    (owner, mine, thieves)
 }
 
 // Once all parts are joined again, a worker that did not stop looks whether nothing is left.
@@ -296,8 +220,8 @@ fn prelink_named<N: Bound + Send + Sync, L: Linking + Sync, R: Threads + Wait + 
 
 /// Links the items below the count by as many workers as there are passes, each in a thread of its
 /// own. If there are fewer than 256 items, or one worker, the caller is the first of them. Each
-/// takes numbers from one deque, until it finds that empty or its linking stops; `prelink` waits for
-/// all of them. All memory is taken first: if there is not enough, nothing was linked, and the
+/// takes numbers from one deque, until it finds that empty or its linking stops; `prelink` waits
+/// for all of them. All memory is taken first: if there is not enough, nothing was linked, and the
 /// passes are dropped.
 pub fn prelink<L: Linking + Sync, R: Threads + Wait + Sync>(
     rt: &R,

@@ -8,7 +8,7 @@ use crate::linking::Linking;
 use crate::rule::{Both, Bound, Cut, Fair, Taking};
 use crate::tally::Tally;
 use crate::worked::{Lane, Worked};
-use crate::working::{Owner, finish_work, ready, take_on};
+use crate::working::{Owner, finish_work, grow_heap, ready, take_on};
 use crossbeam_deque::{Steal, Stealer};
 use mh_base::NoMemory;
 use mh_threads::call_beside;
@@ -70,7 +70,10 @@ pub(crate) fn steal_beside<N: Bound + Send + Sync, L: Linking + Sync, R: Threads
                 × (stealer_flavor thief.now ≡ 0) × (N.bound ≤ L.items linking.now) }
             ensures { HasStolen (λ l. IsPassOf (stealer_deque thief.entry.now) l.place)
                 (L.step linking.entry.now) (L.has linking.entry.now) lane.old lane.new }
-        { steal_all(rt, linking, thief, lane) },
+        {
+            grow_heap(&lane.work.taken);
+            steal_all(rt, linking, thief, lane)
+        },
         lanes,
     );
 }

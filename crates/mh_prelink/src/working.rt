@@ -13,6 +13,33 @@ use mh_base::NoMemory;
 use std::alloc::Global;
 use std::sync::Wait;
 
+/// With room for so many numbers, a worker has enough to do for a thread of its own.
+pub(crate) const MANY: usize = 256;
+
+// Bytes that linking takes for an item and keeps, about.
+const KEPT: usize = 1024;
+
+// The heap grows for so many items at most.
+const MOST: usize = 16_384;
+
+// A block of memory that nothing reads. A caller cannot see that, so the block is really taken.
+#[inline(never)]
+fn block(alloc: Global, bytes: usize) -> Result<Vec<u8>, NoMemory> {
+    Ok(Vec::with_capacity(alloc, bytes)?)
+}
+
+/// If there are many items, the heap of the thread grows once, and not by a page at a time: a block
+/// for what all items keep is taken and given back. The C library takes the first such block from
+/// the system and the next one from the thread's heap, so two are taken. If memory is short, the
+/// heap grows later.
+pub(crate) fn grow_heap(taken: &Vec<u32>) {
+    let items = taken.capacity().min(MOST);
+    if items >= MANY {
+        let _ = block(*taken.allocator(), items * KEPT);
+        let _ = block(*taken.allocator(), items * KEPT);
+    }
+}
+
 /// The deque's own worker.
 pub(crate) type Owner<N> = Worker<u32, Global, Tally, Fair<N>>;
 

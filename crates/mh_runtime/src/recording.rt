@@ -99,7 +99,7 @@ pub(crate) fn table<J: Run, R: Wait>(
     ensures own { OnOk result (AreRecorded pass.now pass.now.linked) }
 {
     let owners = owners(alloc, pass)?;
-    let mut table = Seq::new(alloc);
+    let mut table = Seq::from_vec(Vec::with_capacity(alloc, pass.sites())?);
     for site in 0..pass.sites() {
         let number = u32::try_from(site).map_err(|_| NoMemory)?;
         table.push(recorded_site(rt, alloc, pass, number, owners[site])?)?;

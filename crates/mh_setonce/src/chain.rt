@@ -63,8 +63,8 @@ impl<V: Keyed> Chain<V> {
         Walk::new(alloc, self)
     }
 
-    /// The node with the key, if the walk has learnt it or a cell shows it now. A node that the walk
-    /// has learnt is answered without memory.
+    /// The node with the key, if the walk has learnt it or a cell shows it now. A node that the
+    /// walk has learnt is answered without memory.
     pub fn find<'t>(
         &'t self,
         walk: &mut Walk<'t, V>,

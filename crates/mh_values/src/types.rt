@@ -4,8 +4,8 @@ ghost use Rattle.mh_values.specs.Array.{item_type};
 use crate::ClassId;
 use mh_base::Seq;
 
-/// A primitive type, by its letter in a descriptor: `boolean`, `byte`, `char`, `short`, `int`, `long`
-/// (JVMS SE 17, 4.3.2).
+/// A primitive type, by its letter in a descriptor: `boolean`, `byte`, `char`, `short`, `int`,
+/// `long` (JVMS SE 17, 4.3.2).
 #[derive(Clone, Copy, Debug, PartialEq, Eq)]
 pub enum Primitive {
     Z,

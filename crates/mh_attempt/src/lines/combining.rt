@@ -172,7 +172,8 @@ pub(crate) fn of_three<'t, R: Wait>(
         → Makes (recipe (leaves_of w.old) (three_tree by a b d)) w.old w.new result }
     ensures types { TradesTypes (ty ∷ [])
         (parts.entry.0.held ++ parts.entry.1.held ++ parts.entry.2.held) w.old w.new result }
-    ensures stands { (a b d : Tree) → StandsIn w.old parts.entry.0 a → StandsIn w.old parts.entry.1 b
+    ensures stands { (a b d : Tree) → StandsIn w.old parts.entry.0 a
+        → StandsIn w.old parts.entry.1 b
         → StandsIn w.old parts.entry.2 d
         → IfOk result (λ h. StandsIn w.old h (three_tree by a b d)) }
 {
