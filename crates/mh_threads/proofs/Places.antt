@@ -18,4 +18,5 @@ module _ {L : Type 0} (done : ℕ → L → L → Type 0) (first : ℕ) (before 
     where
       at : (i : ℕ) (d : L) → i < length (before ∷ others) → done (first + i) (slice_index_or (before ∷ others) i d) (slice_index_or (after ∷ others') i d)
       at zero d within = subst (λ place. done place before after) (omega arith) one
-      at (suc i) d within = subst (λ place. done place (slice_index_or others i d) (slice_index_or others' i d)) (omega arith) (rest.each i d (omega (arith, within)))
+      at (suc i) d within = subst (λ place. done place (slice_index_or others i d) (slice_index_or others' i d)) (omega arith)
+          (rest.each i d (omega (arith, within)))

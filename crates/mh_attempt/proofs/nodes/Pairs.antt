@@ -106,8 +106,8 @@ module _ (frame : Frame) (name : List ℕ) (by : OfTwo) (part : Register) where
       let n = two_tree by t u in
       let m = pair_asked name by part frame >>= typed leaves in
       subst (λ ts. AsksNoOther (types_of leaves (unless_thrown m (λ x. ts ++ nodes_of x))) old.seat.now mid.seat.now) (one-use frame p part uses)
-      (types-unmade_node Handle {B = Handle} leaves (p ∷ []) m n old mid NoMemory (Err NoMemory) (ap (λ x. x >>= typed leaves) given ∙ typed-is leaves n own is) refl
-      asked)
+      (types-unmade_node Handle {B = Handle} leaves (p ∷ []) m n old mid NoMemory (Err NoMemory)
+      (ap (λ x. x >>= typed leaves) given ∙ typed-is leaves n own is) refl asked)
 
   -- nothing was taken out: the register of this name held a handle before, so no memory was left
   pub pair-untaken : {A : Type 0} (Is : A → Tree → Type 0) (old new : Work) (error : CheckError) (t : Tree) →
@@ -162,7 +162,8 @@ pair-operation frame op name by part old new r is makes =
           (subst (λ (itself : Tree → List Tree). AsksIfMade (map (recipe leaves) (nodes_of_uses frame (part ∷ []) ++ itself n)) old new r)
           (sym (is.itself leaves frame)) (makes.asks n (sym asked ∙ subst (λ t. asked_by leaves frame op ≡ Ok t) (ok_is found.0 n own.2) found.1))));
       asked =
-          subst (λ m. AsksTypesOrThrows (types_of leaves (unless_thrown (m >>= typed leaves) (λ t. nodes_of_uses frame (handles_of op) ++ nodes_of t))) old new r)
+          subst (λ m. AsksTypesOrThrows (types_of leaves (unless_thrown (m >>= typed leaves)
+          (λ t. nodes_of_uses frame (handles_of op) ++ nodes_of t))) old new r)
           (sym asked)
           (subst (λ used. AsksTypesOrThrows (types_of leaves (unless_thrown (pair_asked name by part frame >>= typed leaves)
           (λ t. nodes_of_uses frame used ++ nodes_of t))) old new r) (sym is.handles) makes.asked);

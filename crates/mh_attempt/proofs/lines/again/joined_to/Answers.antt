@@ -14,7 +14,8 @@ pub returns-in-FilterReturn : goal.returns-in-FilterReturn
 returns-in-FilterReturn c =
     let found = c.in-FilterReturn in
     subst (λ op. IfSome c.joined_by-in-FilterReturn.result (λ with. IsPair op c.args.name.now with.0 with.1.now)) (sym found.is)
-    (found-pair _ c.args.name.now _ _ _ c.joined_by-in-FilterReturn.result c.joined_by-in-FilterReturn.ensures (λ is. filter_return-pair c.args.name.now _ _ is))
+    (found-pair _ c.args.name.now _ _ _ c.joined_by-in-FilterReturn.result c.joined_by-in-FilterReturn.ensures
+    (λ is. filter_return-pair c.args.name.now _ _ is))
 
 pub returns-in-Fold : goal.returns-in-Fold
 returns-in-Fold c =
